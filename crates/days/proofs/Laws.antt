@@ -1,0 +1,71 @@
+-- The laws of days and pairs: a number and its pair are one day, the weekday by the pair, and the step case by case; by arithmetic on 4016 C + A.
+-- Assumes nothing.
+use mathlib.Core.Bool.{Bool, true, false, cond, _&&_, false≢true}
+use mathlib.Core.Path.{_≡_, refl, ap, _∙_}
+use Prim.Native.Nat.{ℕ, _+_, _*_, _/_, _%_, _<_, _≤_}
+use native.Mathlib.Omega.{arith}
+use lib.Dec.{ltb}
+use borrow.Author.Tests.{ltb-true, lt-ltb, le-leb, lt-leb}
+use Rattle.days.specs.declared.Day.{Day}
+use Rattle.days.specs.Refusals.{outOfRange}
+use Rattle.days.specs.Days.{cycleDays, cycles, lastDay, count, weekdayOn, pairAt, theDay, noDay, inRange, dayOf, nextOf}
+
+-- what a pair in range keeps to
+pub in-range : (d : Day) → inRange d ≡ true → (d .cycle < cycles) × (d .within < cycleDays)
+unfolding inRange
+in-range d e = go (ltb (d .cycle) cycles) refl e
+  where
+    go : (t : Bool) → ltb (d .cycle) cycles ≡ t → (t && ltb (d .within) cycleDays) ≡ true → (d .cycle < cycles) × (d .within < cycleDays)
+    go true h k = (ltb-true (d .cycle) cycles h, ltb-true (d .within) cycleDays k)
+    go false h k = absurd (false≢true k)
+
+pub range-in : (d : Day) → d .cycle < cycles → d .within < cycleDays → inRange d ≡ true
+unfolding inRange
+range-in d h k = rw (lt-ltb _ _ h, lt-ltb _ _ k)
+
+-- the pair of a day's number is in range
+pub pair-in-range : (n : ℕ) → n ≤ lastDay → inRange (pairAt n) ≡ true
+pair-in-range n h = range-in (pairAt n) (omega arith) (omega arith)
+
+pub day-of : (n : ℕ) → n ≤ lastDay → dayOf n ≡ theDay (pairAt n)
+unfolding dayOf
+day-of n h = rw (le-leb _ _ h)
+
+pub past-last : (n : ℕ) → lastDay < n → dayOf n ≡ noDay outOfRange
+unfolding dayOf
+past-last n h = rw (lt-leb _ _ h)
+
+-- number and pair, both ways
+pub count-pair : (n : ℕ) → count (pairAt n) ≡ n
+count-pair n = omega arith
+
+pub pair-count : (C A : ℕ) → A < cycleDays → pairAt (cycleDays * C + A) ≡ record { cycle = C; within = A }
+pair-count C A h =
+    let q : (cycleDays * C + A) / cycleDays ≡ C = omega arith in
+    let r : (cycleDays * C + A) % cycleDays ≡ A = omega arith in
+    rw (q, r)
+
+day-of-pair : (C A : ℕ) → C < cycles → A < cycleDays → dayOf (cycleDays * C + A) ≡ theDay (record { cycle = C; within = A })
+day-of-pair C A h k = day-of (cycleDays * C + A) (omega arith) ∙ ap theDay (pair-count C A k)
+
+-- the weekday is (5 C + A) mod 7
+pub weekday-by-pair : (d : Day) → (5 * d .cycle + d .within) % 7 ≡ weekdayOn (count d)
+weekday-by-pair d = omega arith
+
+pub next-within : (d : Day) → inRange d ≡ true → d .within < 4015 → nextOf d ≡ theDay (record { cycle = d .cycle; within = d .within + 1 })
+unfolding nextOf
+next-within d e h =
+    let r = in-range d e in
+    let s : count d + 1 ≡ cycleDays * d .cycle + (d .within + 1) = omega arith in
+    rw e (ap dayOf s ∙ day-of-pair (d .cycle) (d .within + 1) (omega arith) (omega arith))
+
+pub next-cycle : (d : Day) → inRange d ≡ true → 4015 ≤ d .within → d .cycle < 99 → nextOf d ≡ theDay (record { cycle = d .cycle + 1; within = 0 })
+unfolding nextOf
+next-cycle d e h k =
+    let r = in-range d e in
+    let s : count d + 1 ≡ cycleDays * (d .cycle + 1) + 0 = omega arith in
+    rw e (ap dayOf s ∙ day-of-pair (d .cycle + 1) 0 (omega arith) (omega arith))
+
+pub next-none : (d : Day) → inRange d ≡ true → 4015 ≤ d .within → 99 ≤ d .cycle → nextOf d ≡ noDay outOfRange
+unfolding nextOf
+next-none d e h k = let r = in-range d e in rw e (past-last (count d + 1) (omega arith))

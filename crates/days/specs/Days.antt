@@ -1,0 +1,71 @@
+-- The days 0 to 401,599 as pairs of a cycle C and a day A within it: day = 4016 × C + A.
+-- Assumes nothing.
+use mathlib.Core.Bool.{Bool, cond, _&&_}
+use Prim.Native.Nat.{ℕ, _+_, _*_, _/_, _%_}
+use lib.Dec.{ltb, leb}
+use Rattle.days.specs.Refusals.{accepted, outOfRange}
+use Rattle.days.specs.declared.Day.{Day}
+use Rattle.days.specs.declared.DayAnswer.{DayAnswer}
+use Rattle.days.specs.declared.NumberAnswer.{NumberAnswer}
+
+abbrev pub cycleDays : ℕ
+cycleDays = 4016
+
+abbrev pub cycles : ℕ
+cycles = 100
+
+abbrev pub lastDay : ℕ
+lastDay = 401599
+
+-- the Julian Day Number of day 0
+abbrev pub epochJulianDay : ℕ
+epochJulianDay = 2276316
+
+-- an answer that is a day, or a number
+abbrev pub theDay : Day → DayAnswer
+theDay d = record { refusal = accepted; day = d }
+
+abbrev pub theNumber : ℕ → NumberAnswer
+theNumber n = record { refusal = accepted; number = n }
+
+-- a refusal: its number, and all zeros
+abbrev pub noDay : ℕ → DayAnswer
+noDay r = record { refusal = r; day = record { cycle = 0; within = 0 } }
+
+abbrev pub noNumber : ℕ → NumberAnswer
+noNumber r = record { refusal = r; number = 0 }
+
+-- the number of the pair
+abbrev pub count : Day → ℕ
+count d = cycleDays * d .cycle + d .within
+
+-- 0 Monday to 6 Sunday
+abbrev pub weekdayOn : ℕ → ℕ
+weekdayOn n = n % 7
+
+-- the pair of day n
+abbrev pub pairAt : ℕ → Day
+pairAt n = record { cycle = n / cycleDays; within = n % cycleDays }
+
+unfoldable pub dayOf : ℕ → DayAnswer
+dayOf n = cond (leb n lastDay) (theDay (pairAt n)) (noDay outOfRange)
+
+-- C from 0 to 99, A from 0 to 4015
+unfoldable pub inRange : Day → Bool
+inRange d = ltb (d .cycle) cycles && ltb (d .within) cycleDays
+
+unfoldable pub pairOf : ℕ → ℕ → DayAnswer
+pairOf C A = let d : Day = record { cycle = C; within = A } in cond (inRange d) (theDay d) (noDay outOfRange)
+
+unfoldable pub numberOf : Day → NumberAnswer
+numberOf d = cond (inRange d) (theNumber (count d)) (noNumber outOfRange)
+
+unfoldable pub julianDayOf : Day → NumberAnswer
+julianDayOf d = cond (inRange d) (theNumber (epochJulianDay + count d)) (noNumber outOfRange)
+
+unfoldable pub weekdayOf : Day → NumberAnswer
+weekdayOf d = cond (inRange d) (theNumber (weekdayOn (count d))) (noNumber outOfRange)
+
+-- the step: the day whose number is one more, which the last day has not
+unfoldable pub nextOf : Day → DayAnswer
+nextOf d = cond (inRange d) (dayOf (count d + 1)) (noDay outOfRange)

@@ -1,0 +1,162 @@
+// The days 0 to 401,599, as pairs of a cycle and a day within it.
+pub mod refusal;
+
+ghost use mathlib.Core.Path.{_≡_};
+ghost use Rattle.days.specs.Days.{inRange, dayOf, pairOf, numberOf, julianDayOf, weekdayOf, nextOf};
+
+// A cycle from 0 to 99 and a day within it from 0 to 4015: paper 01's pair (C, A). Any other pair is refused wherever it is taken.
+pub struct Day {
+    pub cycle: u32,
+    pub within: u32,
+}
+
+// An answer is a refusal's number, or 0, beside the values; a refusal has all zeros.
+pub struct DayAnswer {
+    pub refusal: u32,
+    pub day: Day,
+}
+
+pub struct NumberAnswer {
+    pub refusal: u32,
+    pub number: u32,
+}
+
+const NO_DAY: DayAnswer = DayAnswer {
+    refusal: refusal::OUT_OF_RANGE,
+    day: Day {
+        cycle: 0,
+        within: 0,
+    },
+};
+
+const NO_NUMBER: NumberAnswer = NumberAnswer {
+    refusal: refusal::OUT_OF_RANGE,
+    number: 0,
+};
+
+impl Day {
+    // Day 0: 19 March 1520 in the Julian calendar, a Monday.
+    pub const EPOCH: Day = Day {
+        cycle: 0,
+        within: 0,
+    };
+
+    pub const EPOCH_JULIAN_DAY: u32 = 2276316;
+
+    pub const CYCLE_DAYS: u32 = 4016;
+
+    pub const CYCLES: u32 = 100;
+
+    pub const LAST: u32 = Day::CYCLES * Day::CYCLE_DAYS - 1;
+
+    pub fn from_number(number: u32) -> DayAnswer
+        ensures { λ r. ⌜ r ≡ dayOf number ⌝ }
+    {
+        if number <= Day::LAST {
+            DayAnswer {
+                refusal: refusal::NONE,
+                day: Day {
+                    cycle: number / Day::CYCLE_DAYS,
+                    within: number % Day::CYCLE_DAYS,
+                },
+            }
+        } else {
+            NO_DAY
+        }
+    }
+
+    pub fn from_pair(cycle: u32, within: u32) -> DayAnswer
+        ensures { λ r. ⌜ r ≡ pairOf cycle within ⌝ }
+    {
+        let day = Day { cycle, within };
+        if day.in_range() {
+            DayAnswer {
+                refusal: refusal::NONE,
+                day,
+            }
+        } else {
+            NO_DAY
+        }
+    }
+
+    pub fn in_range(self) -> bool
+        ensures { λ r. ⌜ r ≡ inRange self ⌝ }
+    {
+        if self.cycle < Day::CYCLES {
+            self.within < Day::CYCLE_DAYS
+        } else {
+            false
+        }
+    }
+
+    pub fn number(self) -> NumberAnswer
+        ensures { λ r. ⌜ r ≡ numberOf self ⌝ }
+    {
+        if self.in_range() {
+            let number = Day::CYCLE_DAYS * self.cycle + self.within;
+            NumberAnswer {
+                refusal: refusal::NONE,
+                number,
+            }
+        } else {
+            NO_NUMBER
+        }
+    }
+
+    pub fn julian_day(self) -> NumberAnswer
+        ensures { λ r. ⌜ r ≡ julianDayOf self ⌝ }
+    {
+        if self.in_range() {
+            let number = Day::EPOCH_JULIAN_DAY + Day::CYCLE_DAYS * self.cycle + self.within;
+            NumberAnswer {
+                refusal: refusal::NONE,
+                number,
+            }
+        } else {
+            NO_NUMBER
+        }
+    }
+
+    // 0 Monday to 6 Sunday.
+    pub fn weekday(self) -> NumberAnswer
+        ensures { λ r. ⌜ r ≡ weekdayOf self ⌝ }
+    {
+        if self.in_range() {
+            let number = (5 * self.cycle + self.within) % 7;
+            NumberAnswer {
+                refusal: refusal::NONE,
+                number,
+            }
+        } else {
+            NO_NUMBER
+        }
+    }
+
+    // The day after it: paper 01's step.
+    pub fn next(self) -> DayAnswer
+        ensures { λ r. ⌜ r ≡ nextOf self ⌝ }
+    {
+        if self.in_range() {
+            if self.within < Day::CYCLE_DAYS - 1 {
+                let within = self.within + 1;
+                DayAnswer {
+                    refusal: refusal::NONE,
+                    day: Day {
+                        cycle: self.cycle,
+                        within,
+                    },
+                }
+            } else if self.cycle < Day::CYCLES - 1 {
+                let cycle = self.cycle + 1;
+                DayAnswer {
+                    refusal: refusal::NONE,
+                    day: Day { cycle, within: 0 },
+                }
+            } else {
+                NO_DAY
+            }
+        } else {
+            NO_DAY
+        }
+    }
+}

@@ -1,0 +1,16 @@
+// Paper 01's refusals by number.
+pub const NONE: u32 = 0;
+
+pub const NO_SUCH_DATE: u32 = 1;
+
+pub const OUT_OF_RANGE: u32 = 2;
+
+pub const BAD_INPUT: u32 = 3;
+
+pub const NO_SUCH_WEEKDAY: u32 = 4;
+
+pub const LAST_BEFORE_FIRST: u32 = 5;
+
+pub const BAD_CONDITION: u32 = 6;
+
+pub const LIST_TOO_SHORT: u32 = 7;
