@@ -1,0 +1,120 @@
+-- The laws of the Saka lunar date: the bounds of a date in range, at most one of three days in a row has a weekday, and which one it is; by the weekdays mod 7.
+-- Assumes nothing.
+use mathlib.Core.Bool.{Bool, true, false, cond, _&&_, false≢true}
+use mathlib.Core.List.{List, [], _∷_}
+use mathlib.Core.Path.{_≡_, refl, sym, ap, _∙_}
+use Prim.Native.Nat.{ℕ, zero, suc, _+_, _*_, _-_, _/_, _%_, _<_, _≤_}
+use native.Mathlib.Omega.{arith}
+use lib.Dec.{ltb, leb, eqb}
+use lib.IntN.{ℤ, pos, negsuc, predℤ, sucℤ}
+use lib.ListN.{length}
+use borrow.Author.Tests.{ltb-true, leb-true, eqb-true, eqb-false, eq-eqb, ne-eqb}
+use Rattle.days.specs.Refusals.{outOfRange, noSuchWeekday}
+use Rattle.days.specs.Days.{noNumber}
+use Rattle.saka.specs.declared.LunarDate.{LunarDate}
+use Rattle.saka.specs.LunarDays.{firstYear, lastYear, fieldsInRange, yearInRange, cycle, meanMonths, extraMonths, reckonedDay, weekdayAt, threeDays, having, numbered, answer, dayOn}
+
+both : (a b : Bool) → (a && b) ≡ true → (a ≡ true) × (b ≡ true)
+both true b e = (refl, e)
+both false b e = absurd (false≢true e)
+
+-- what a date in range keeps to
+pub record InRange (d : LunarDate) : Type 0 where
+  pub first : firstYear ≤ d .year
+  pub months : meanMonths d < 132
+  pub tithis : d .tithis < 30
+  pub weekday : d .weekday < 7
+  pub cycles : cycle d < 100
+  pub extra : extraMonths (cycle d) (meanMonths d) < 11
+
+pub in-range : (d : LunarDate) → fieldsInRange d ≡ true → yearInRange (d .year) ≡ true → InRange d
+unfolding fieldsInRange yearInRange extraMonths
+in-range d e f =
+    let a = both (ltb (d .months) 12) (ltb (d .tithis) 30 && ltb (d .weekday) 7) e in
+    let b = both (ltb (d .tithis) 30) (ltb (d .weekday) 7) (a .1) in
+    let y = both (leb firstYear (d .year)) (leb (d .year) lastYear) f in
+    let m = ltb-true (d .months) 12 (a .0) in
+    let l = leb-true (d .year) lastYear (y .1) in
+    record {
+      first = leb-true firstYear (d .year) (y .0);
+      months = omega arith;
+      tithis = ltb-true (d .tithis) 30 (b .0);
+      weekday = ltb-true (d .weekday) 7 (b .1);
+      cycles = omega arith;
+      extra = omega arith;
+    }
+
+pub reckoned : (d : LunarDate) → InRange d → reckonedDay d < 1000000
+unfolding reckonedDay
+reckoned d r = omega arith
+
+-- the weekday of the day before, which may be day −1
+before : (n : ℕ) → weekdayAt (predℤ (pos n)) ≡ (n + 6) % 7
+before zero = refl
+before (suc n) = omega arith
+
+module _ (w : ℕ) (z : ℤ) (zs : List ℤ) where
+  has : weekdayAt z ≡ w → having w (z ∷ zs) ≡ z ∷ having w zs
+  unfolding having
+  has e = rw (eq-eqb (weekdayAt z) w e)
+
+  lacks : (weekdayAt z ≡ w → ⊥) → having w (z ∷ zs) ≡ having w zs
+  unfolding having
+  lacks e = rw (ne-eqb (weekdayAt z) w e)
+
+-- the days that have the weekday, where one of the three has it, and where none has
+module _ (w n : ℕ) where
+  only-before : weekdayAt (predℤ (pos n)) ≡ w → having w (threeDays n) ≡ predℤ (pos n) ∷ []
+  unfolding having
+  only-before e = rw (has w (predℤ (pos n)) _ e, lacks w (pos n) _ (λ x. omega (arith, before n)), lacks w (pos (n + 1)) [] (λ x. omega (arith, before n)))
+
+  only-reckoned : n % 7 ≡ w → having w (threeDays n) ≡ pos n ∷ []
+  unfolding having
+  only-reckoned e = rw (lacks w (predℤ (pos n)) _ (λ x. omega (arith, before n)), has w (pos n) _ e, lacks w (pos (n + 1)) [] (λ x. omega arith))
+
+  only-after : (n + 1) % 7 ≡ w → having w (threeDays n) ≡ pos (n + 1) ∷ []
+  unfolding having
+  only-after e = rw (lacks w (predℤ (pos n)) _ (λ x. omega (arith, before n)), lacks w (pos n) _ (λ x. omega arith), has w (pos (n + 1)) [] e)
+
+  none : (weekdayAt (predℤ (pos n)) ≡ w → ⊥) → (n % 7 ≡ w → ⊥) → ((n + 1) % 7 ≡ w → ⊥) → having w (threeDays n) ≡ []
+  unfolding having
+  none i j k = rw (lacks w (predℤ (pos n)) _ i, lacks w (pos n) _ j, lacks w (pos (n + 1)) [] k)
+
+-- at most one of the three days has the weekday, so the order in which they are tried cannot matter
+pub at-most-one : (w n : ℕ) → length (having w (threeDays n)) ≤ 1
+at-most-one w n = go (eqb (weekdayAt (predℤ (pos n))) w) (eqb (n % 7) w) (eqb ((n + 1) % 7) w) refl refl refl
+  where
+    go : (a b c : Bool) → eqb (weekdayAt (predℤ (pos n))) w ≡ a → eqb (n % 7) w ≡ b → eqb ((n + 1) % 7) w ≡ c → length (having w (threeDays n)) ≤ 1
+    go true b c i j k = rw (only-before w n (eqb-true _ _ i)) (omega arith)
+    go false true c i j k = rw (only-reckoned w n (eqb-true _ _ j)) (omega arith)
+    go false false true i j k = rw (only-after w n (eqb-true _ _ k)) (omega arith)
+    go false false false i j k = rw (none w n (eqb-false _ _ i) (eqb-false _ _ j) (eqb-false _ _ k)) (omega arith)
+
+-- which of the three it is, by how many days the weekday is ahead of day n
+module _ (w n : ℕ) (h : w < 7) where
+  pub on-reckoned : (w + 7 - n % 7) % 7 ≡ 0 → dayOn w n ≡ numbered n
+  unfolding dayOn answer
+  on-reckoned k = rw (only-reckoned w n (omega arith))
+
+  pub on-after : (w + 7 - n % 7) % 7 ≡ 1 → dayOn w n ≡ numbered (n + 1)
+  unfolding dayOn answer
+  on-after k = rw (only-after w n (omega arith))
+
+  pub on-before : (w + 7 - n % 7) % 7 ≡ 6 → dayOn w n ≡ answer (predℤ (pos n) ∷ [])
+  unfolding dayOn
+  on-before k = rw (only-before w n (omega (arith, before n)))
+
+  pub on-none : ((w + 7 - n % 7) % 7 ≡ 0 → ⊥) → ((w + 7 - n % 7) % 7 ≡ 1 → ⊥) → ((w + 7 - n % 7) % 7 ≡ 6 → ⊥) → dayOn w n ≡ noNumber noSuchWeekday
+  unfolding dayOn answer
+  on-none i j k = rw (none w n (λ e. omega (arith, before n)) (λ e. omega arith) (λ e. omega arith))
+
+-- the day before day 0 has no number
+pub before-first : (n : ℕ) → n ≡ 0 → answer (predℤ (pos n) ∷ []) ≡ noNumber outOfRange
+unfolding answer
+before-first zero e = refl
+before-first (suc n) e = absurd (omega arith)
+
+pub before-later : (n : ℕ) → (n ≡ 0 → ⊥) → answer (predℤ (pos n) ∷ []) ≡ numbered (n - 1)
+unfolding answer
+before-later zero e = absurd (e refl)
+before-later (suc n) e = ap numbered (omega arith)

@@ -1,0 +1,83 @@
+-- The day of a Saka lunar date: the day reckoned by mean months and tithis, the day before it or the day after, whichever has the weekday.
+-- Assumes nothing.
+use mathlib.Core.Bool.{Bool, cond, _&&_}
+use mathlib.Core.List.{List, [], _∷_}
+use Prim.Native.Nat.{ℕ, _+_, _-_, _*_, _/_, _%_}
+use lib.Dec.{ltb, leb, eqb}
+use lib.IntN.{ℤ, pos, negsuc, predℤ}
+use Rattle.days.specs.Refusals.{outOfRange, badInput, noSuchWeekday}
+use Rattle.days.specs.Days.{cycleDays, lastDay, weekdayOn, theNumber, noNumber}
+use Rattle.days.specs.declared.NumberAnswer.{NumberAnswer}
+use Rattle.saka.specs.declared.LunarDate.{LunarDate}
+
+abbrev pub firstYear : ℕ
+firstYear = 1442
+
+abbrev pub lastYear : ℕ
+lastYear = 2541
+
+-- months 0 to 11, tithis 0 to 29, weekday 0 to 6
+unfoldable pub fieldsInRange : LunarDate → Bool
+fieldsInRange d = ltb (d .months) 12 && (ltb (d .tithis) 30 && ltb (d .weekday) 7)
+
+unfoldable pub yearInRange : ℕ → Bool
+yearInRange y = leb firstYear y && leb y lastYear
+
+-- paper 01's C: the cycles of eleven years
+abbrev pub cycle : LunarDate → ℕ
+cycle d = (d .year - firstYear) / 11
+
+-- M: the lunar months since the cycle's start, the extra ones left out
+abbrev pub meanMonths : LunarDate → ℕ
+meanMonths d = 12 * ((d .year - firstYear) % 11) + d .months
+
+-- the extra months (adhikamāsa) that C cycles and M months bring
+unfoldable pub extraMonths : ℕ → ℕ → ℕ
+extraMonths C M = (M + 2 * C + 10) / 33
+
+-- TM: the lunar months since the cycle's start
+abbrev pub trueMonths : LunarDate → ℕ
+trueMonths d = meanMonths d + extraMonths (cycle d) (meanMonths d)
+
+-- H: the tithis since the cycle's start
+abbrev pub elapsedTithis : LunarDate → ℕ
+elapsedTithis d = 30 * trueMonths d + d .tithis + cycle d / 6
+
+-- A: the civil days since the cycle's start, one fewer for every 64 tithis; they may pass 4015
+abbrev pub civilDays : LunarDate → ℕ
+civilDays d = elapsedTithis d - elapsedTithis d / 64
+
+unfoldable pub reckonedDay : LunarDate → ℕ
+reckonedDay d = cycleDays * cycle d + civilDays d
+
+-- the weekday of an integer day; day −1 is a Sunday
+abbrev pub weekdayAt : ℤ → ℕ
+weekdayAt (pos n) = weekdayOn n
+weekdayAt (negsuc n) = 6 - n % 7
+
+-- the day before day n, day n, and the day after
+abbrev pub threeDays : ℕ → List ℤ
+threeDays n = predℤ (pos n) ∷ pos n ∷ pos (n + 1) ∷ []
+
+-- those of the days that have weekday w
+unfoldable pub having : ℕ → List ℤ → List ℤ
+having w [] = []
+having w (z ∷ zs) = cond (eqb (weekdayAt z) w) (z ∷ having w zs) (having w zs)
+
+unfoldable pub numbered : ℕ → NumberAnswer
+numbered n = cond (leb n lastDay) (theNumber n) (noNumber outOfRange)
+
+-- the answer, from the days that have the weekday: at most one of the three has it (`Laws.at-most-one`)
+unfoldable pub answer : List ℤ → NumberAnswer
+answer [] = noNumber noSuchWeekday
+answer (pos n ∷ _) = numbered n
+answer (negsuc _ ∷ _) = noNumber outOfRange
+
+unfoldable pub dayOn : ℕ → ℕ → NumberAnswer
+dayOn w n = answer (having w (threeDays n))
+
+unfoldable pub lunarDay : LunarDate → NumberAnswer
+lunarDay d =
+    cond (fieldsInRange d)
+    (cond (yearInRange (d .year)) (dayOn (d .weekday) (reckonedDay d)) (noNumber outOfRange))
+    (noNumber badInput)
