@@ -67,7 +67,7 @@ having w (z ∷ zs) = cond (eqb (weekdayAt z) w) (z ∷ having w zs) (having w z
 unfoldable pub numbered : ℕ → NumberAnswer
 numbered n = cond (leb n lastDay) (theNumber n) (noNumber outOfRange)
 
--- the answer, from the days that have the weekday: at most one of the three has it (`Laws.at-most-one`)
+-- the answer, from the days that have the weekday: at most one of the three has it (the law `at-most-one`)
 unfoldable pub answer : List ℤ → NumberAnswer
 answer [] = noNumber noSuchWeekday
 answer (pos n ∷ _) = numbered n

@@ -2,10 +2,10 @@
 use borrow.Author.Needs.{needs}
 use borrow.Author.Tests.{not-true, not-false}
 use mathlib.Core.Bool.{true}
-use mathlib.Core.Path.{_≡_, sym, ap, _∙_}
+use mathlib.Core.Path.{_≡_, sym, _∙_}
 use native.Mathlib.Omega.{arith}
 use Rattle.saka.specs.LunarDays.{fieldsInRange, yearInRange, lunarDay}
-use Rattle.saka.proofs.Laws.{InRange, in-range, reckoned}
+use Rattle.saka.proofs.Bounds.{InRange, in-range, reckoned}
 use Rattle.saka.proofs.day_of.Statement.{statement}
 use Rattle.saka.proofs.day_of.Tie as tie
 

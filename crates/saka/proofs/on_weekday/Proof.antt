@@ -1,7 +1,7 @@
 -- `on_weekday` meets its contract: one law for each branch.
 use borrow.Author.Needs.{needs}
 use mathlib.Core.Path.{sym, _∙_}
-use Rattle.saka.proofs.Laws.{on-reckoned, on-after, on-before, on-none, before-first, before-later}
+use Rattle.saka.proofs.ThreeDays.{on-reckoned, on-after, on-before, on-none, before-first, before-later}
 use Rattle.saka.proofs.on_weekday.Statement.{statement}
 use Rattle.saka.proofs.on_weekday.Tie as tie
 

@@ -1,9 +1,8 @@
 -- `reckoned_day` meets its contract: a date in range keeps every sum small.
 use borrow.Author.Needs.{needs}
 use native.Mathlib.Omega.{arith}
-use mathlib.Core.Path.{refl}
 use Rattle.saka.specs.LunarDays.{reckonedDay}
-use Rattle.saka.proofs.Laws.{InRange, in-range}
+use Rattle.saka.proofs.Bounds.{InRange, in-range}
 use Rattle.saka.proofs.reckoned_day.Statement.{statement}
 use Rattle.saka.proofs.reckoned_day.Tie as tie
 

@@ -1,52 +1,17 @@
--- The laws of the Saka lunar date: the bounds of a date in range, at most one of three days in a row has a weekday, and which one it is; by the weekdays mod 7.
+-- At most one of three days in a row has a weekday, and which one it is: by their weekdays mod 7, which differ.
 -- Assumes nothing.
-use mathlib.Core.Bool.{Bool, true, false, cond, _&&_, false≢true}
+use mathlib.Core.Bool.{Bool, true, false}
 use mathlib.Core.List.{List, [], _∷_}
-use mathlib.Core.Path.{_≡_, refl, sym, ap, _∙_}
-use Prim.Native.Nat.{ℕ, zero, suc, _+_, _*_, _-_, _/_, _%_, _<_, _≤_}
+use mathlib.Core.Path.{_≡_, refl, ap}
+use Prim.Native.Nat.{ℕ, zero, suc, _+_, _-_, _%_, _<_, _≤_}
 use native.Mathlib.Omega.{arith}
-use lib.Dec.{ltb, leb, eqb}
-use lib.IntN.{ℤ, pos, negsuc, predℤ, sucℤ}
+use lib.Dec.{eqb}
+use lib.IntN.{ℤ, pos, predℤ}
 use lib.ListN.{length}
-use borrow.Author.Tests.{ltb-true, leb-true, eqb-true, eqb-false, eq-eqb, ne-eqb}
+use borrow.Author.Tests.{eqb-true, eqb-false, eq-eqb, ne-eqb}
 use Rattle.days.specs.Refusals.{outOfRange, noSuchWeekday}
 use Rattle.days.specs.Days.{noNumber}
-use Rattle.saka.specs.declared.LunarDate.{LunarDate}
-use Rattle.saka.specs.LunarDays.{firstYear, lastYear, fieldsInRange, yearInRange, cycle, meanMonths, extraMonths, reckonedDay, weekdayAt, threeDays, having, numbered, answer, dayOn}
-
-both : (a b : Bool) → (a && b) ≡ true → (a ≡ true) × (b ≡ true)
-both true b e = (refl, e)
-both false b e = absurd (false≢true e)
-
--- what a date in range keeps to
-pub record InRange (d : LunarDate) : Type 0 where
-  pub first : firstYear ≤ d .year
-  pub months : meanMonths d < 132
-  pub tithis : d .tithis < 30
-  pub weekday : d .weekday < 7
-  pub cycles : cycle d < 100
-  pub extra : extraMonths (cycle d) (meanMonths d) < 11
-
-pub in-range : (d : LunarDate) → fieldsInRange d ≡ true → yearInRange (d .year) ≡ true → InRange d
-unfolding fieldsInRange yearInRange extraMonths
-in-range d e f =
-    let a = both (ltb (d .months) 12) (ltb (d .tithis) 30 && ltb (d .weekday) 7) e in
-    let b = both (ltb (d .tithis) 30) (ltb (d .weekday) 7) (a .1) in
-    let y = both (leb firstYear (d .year)) (leb (d .year) lastYear) f in
-    let m = ltb-true (d .months) 12 (a .0) in
-    let l = leb-true (d .year) lastYear (y .1) in
-    record {
-      first = leb-true firstYear (d .year) (y .0);
-      months = omega arith;
-      tithis = ltb-true (d .tithis) 30 (b .0);
-      weekday = ltb-true (d .weekday) 7 (b .1);
-      cycles = omega arith;
-      extra = omega arith;
-    }
-
-pub reckoned : (d : LunarDate) → InRange d → reckonedDay d < 1000000
-unfolding reckonedDay
-reckoned d r = omega arith
+use Rattle.saka.specs.LunarDays.{weekdayAt, threeDays, having, numbered, answer, dayOn}
 
 -- the weekday of the day before, which may be day −1
 before : (n : ℕ) → weekdayAt (predℤ (pos n)) ≡ (n + 6) % 7
@@ -92,19 +57,22 @@ at-most-one w n = go (eqb (weekdayAt (predℤ (pos n))) w) (eqb (n % 7) w) (eqb 
 
 -- which of the three it is, by how many days the weekday is ahead of day n
 module _ (w n : ℕ) (h : w < 7) where
-  pub on-reckoned : (w + 7 - n % 7) % 7 ≡ 0 → dayOn w n ≡ numbered n
+  abbrev ahead : ℕ
+  ahead = (w + 7 - n % 7) % 7
+
+  pub on-reckoned : ahead ≡ 0 → dayOn w n ≡ numbered n
   unfolding dayOn answer
   on-reckoned k = rw (only-reckoned w n (omega arith))
 
-  pub on-after : (w + 7 - n % 7) % 7 ≡ 1 → dayOn w n ≡ numbered (n + 1)
+  pub on-after : ahead ≡ 1 → dayOn w n ≡ numbered (n + 1)
   unfolding dayOn answer
   on-after k = rw (only-after w n (omega arith))
 
-  pub on-before : (w + 7 - n % 7) % 7 ≡ 6 → dayOn w n ≡ answer (predℤ (pos n) ∷ [])
+  pub on-before : ahead ≡ 6 → dayOn w n ≡ answer (predℤ (pos n) ∷ [])
   unfolding dayOn
   on-before k = rw (only-before w n (omega (arith, before n)))
 
-  pub on-none : ((w + 7 - n % 7) % 7 ≡ 0 → ⊥) → ((w + 7 - n % 7) % 7 ≡ 1 → ⊥) → ((w + 7 - n % 7) % 7 ≡ 6 → ⊥) → dayOn w n ≡ noNumber noSuchWeekday
+  pub on-none : (ahead ≡ 0 → ⊥) → (ahead ≡ 1 → ⊥) → (ahead ≡ 6 → ⊥) → dayOn w n ≡ noNumber noSuchWeekday
   unfolding dayOn answer
   on-none i j k = rw (none w n (λ e. omega (arith, before n)) (λ e. omega arith) (λ e. omega arith))
 

@@ -1,0 +1,39 @@
+-- What a date in range keeps to, and how far its reckoning goes: from the tests, by arithmetic.
+-- Assumes nothing.
+use mathlib.Core.Bool.{true, _&&_, and-eq-true-iff}
+use mathlib.Core.Path.{_≡_}
+use Prim.Native.Nat.{_≤_, _<_}
+use native.Mathlib.Omega.{arith}
+use lib.Dec.{ltb, leb}
+use borrow.Author.Tests.{ltb-true, leb-true}
+use Rattle.saka.specs.declared.LunarDate.{LunarDate}
+use Rattle.saka.specs.LunarDays.{firstYear, lastYear, fieldsInRange, yearInRange, cycle, meanMonths, extraMonths, reckonedDay}
+
+pub record InRange (d : LunarDate) : Type 0 where
+  pub first : firstYear ≤ d .year
+  pub months : meanMonths d < 132
+  pub tithis : d .tithis < 30
+  pub weekday : d .weekday < 7
+  pub cycles : cycle d < 100
+  pub extra : extraMonths (cycle d) (meanMonths d) < 11
+
+pub in-range : (d : LunarDate) → fieldsInRange d ≡ true → yearInRange (d .year) ≡ true → InRange d
+unfolding fieldsInRange yearInRange extraMonths
+in-range d e f =
+    let a = and-eq-true-iff (ltb (d .months) 12) (ltb (d .tithis) 30 && ltb (d .weekday) 7) .0 e in
+    let b = and-eq-true-iff (ltb (d .tithis) 30) (ltb (d .weekday) 7) .0 (a .1) in
+    let y = and-eq-true-iff (leb firstYear (d .year)) (leb (d .year) lastYear) .0 f in
+    let m = ltb-true (d .months) 12 (a .0) in
+    let l = leb-true (d .year) lastYear (y .1) in
+    record {
+      first = leb-true firstYear (d .year) (y .0);
+      months = omega arith;
+      tithis = ltb-true (d .tithis) 30 (b .0);
+      weekday = ltb-true (d .weekday) 7 (b .1);
+      cycles = omega arith;
+      extra = omega arith;
+    }
+
+pub reckoned : (d : LunarDate) → InRange d → reckonedDay d < 1000000
+unfolding reckonedDay
+reckoned d r = omega arith
