@@ -7,15 +7,15 @@ use native.Mathlib.Omega.{arith}
 use lib.Dec.{ltb, leb}
 use borrow.Author.Tests.{ltb-true, leb-true}
 use Rattle.saka.specs.declared.LunarDate.{LunarDate}
-use Rattle.saka.specs.LunarDays.{firstYear, lastYear, fieldsInRange, yearInRange, cycle, meanMonths, extraMonths, reckonedDay}
+use Rattle.saka.specs.LunarDays.{firstYear, lastYear, fieldsInRange, yearInRange, cycleOf, meanMonths, extraMonths, reckonedDay}
 
 pub record InRange (d : LunarDate) : Type 0 where
   pub first : firstYear ≤ d .year
   pub months : meanMonths d < 132
   pub tithis : d .tithis < 30
   pub weekday : d .weekday < 7
-  pub cycles : cycle d < 100
-  pub extra : extraMonths (cycle d) (meanMonths d) < 11
+  pub cycles : cycleOf d < 100
+  pub extra : extraMonths (cycleOf d) (meanMonths d) < 11
 
 pub in-range : (d : LunarDate) → fieldsInRange d ≡ true → yearInRange (d .year) ≡ true → InRange d
 unfolding fieldsInRange yearInRange extraMonths

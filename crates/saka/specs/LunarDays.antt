@@ -24,8 +24,8 @@ unfoldable pub yearInRange : ℕ → Bool
 yearInRange y = leb firstYear y && leb y lastYear
 
 -- paper 01's C: the cycles of eleven years
-abbrev pub cycle : LunarDate → ℕ
-cycle d = (d .year - firstYear) / 11
+abbrev pub cycleOf : LunarDate → ℕ
+cycleOf d = (d .year - firstYear) / 11
 
 -- M: the lunar months since the cycle's start, the extra ones left out
 abbrev pub meanMonths : LunarDate → ℕ
@@ -37,18 +37,18 @@ extraMonths C M = (M + 2 * C + 10) / 33
 
 -- TM: the lunar months since the cycle's start
 abbrev pub trueMonths : LunarDate → ℕ
-trueMonths d = meanMonths d + extraMonths (cycle d) (meanMonths d)
+trueMonths d = meanMonths d + extraMonths (cycleOf d) (meanMonths d)
 
 -- H: the tithis since the cycle's start
 abbrev pub elapsedTithis : LunarDate → ℕ
-elapsedTithis d = 30 * trueMonths d + d .tithis + cycle d / 6
+elapsedTithis d = 30 * trueMonths d + d .tithis + cycleOf d / 6
 
 -- A: the civil days since the cycle's start, one fewer for every 64 tithis; they may pass 4015
 abbrev pub civilDays : LunarDate → ℕ
 civilDays d = elapsedTithis d - elapsedTithis d / 64
 
 unfoldable pub reckonedDay : LunarDate → ℕ
-reckonedDay d = cycleDays * cycle d + civilDays d
+reckonedDay d = cycleDays * cycleOf d + civilDays d
 
 -- the weekday of an integer day; day −1 is a Sunday
 abbrev pub weekdayAt : ℤ → ℕ
@@ -60,21 +60,22 @@ abbrev pub threeDays : ℕ → List ℤ
 threeDays n = predℤ (pos n) ∷ pos n ∷ pos (n + 1) ∷ []
 
 -- those of the days that have weekday w
-unfoldable pub having : ℕ → List ℤ → List ℤ
-having w [] = []
-having w (z ∷ zs) = cond (eqb (weekdayAt z) w) (z ∷ having w zs) (having w zs)
+unfoldable pub havingWeekday : ℕ → List ℤ → List ℤ
+havingWeekday w [] = []
+havingWeekday w (z ∷ zs) = cond (eqb (weekdayAt z) w) (z ∷ havingWeekday w zs) (havingWeekday w zs)
 
-unfoldable pub numbered : ℕ → NumberAnswer
-numbered n = cond (leb n lastDay) (theNumber n) (noNumber outOfRange)
+-- days run from 0 to 401,599
+unfoldable pub numberAt : ℤ → NumberAnswer
+numberAt (pos n) = cond (leb n lastDay) (theNumber n) (noNumber outOfRange)
+numberAt (negsuc _) = noNumber outOfRange
 
--- the answer, from the days that have the weekday: at most one of the three has it (the law `at-most-one`)
-unfoldable pub answer : List ℤ → NumberAnswer
-answer [] = noNumber noSuchWeekday
-answer (pos n ∷ _) = numbered n
-answer (negsuc _ ∷ _) = noNumber outOfRange
+-- the answer from the days that have the weekday: none of the three, or just one (the law `at-most-one`)
+unfoldable pub answerFrom : List ℤ → NumberAnswer
+answerFrom [] = noNumber noSuchWeekday
+answerFrom (z ∷ _) = numberAt z
 
 unfoldable pub dayOn : ℕ → ℕ → NumberAnswer
-dayOn w n = answer (having w (threeDays n))
+dayOn w n = answerFrom (havingWeekday w (threeDays n))
 
 unfoldable pub lunarDay : LunarDate → NumberAnswer
 lunarDay d =

@@ -6,8 +6,9 @@ use days::NumberAnswer;
 ghost use mathlib.Core.Bool.{true};
 ghost use mathlib.Core.Path.{_≡_};
 ghost use Prim.Native.Nat.{_<_};
+ghost use lib.IntN.{pos, predℤ};
 ghost use Rattle.days.specs.Days.{noNumber};
-ghost use Rattle.saka.specs.LunarDays.{lunarDay, fieldsInRange, yearInRange, reckonedDay, extraMonths, dayOn, numbered};
+ghost use Rattle.saka.specs.LunarDays.{lunarDay, fieldsInRange, yearInRange, reckonedDay, extraMonths, dayOn, numberAt};
 
 // The Saka year, the lunar months (0 to 11) and the tithis (0 to 29), all elapsed, and the weekday, 0 Monday to 6 Sunday.
 pub struct LunarDate {
@@ -90,23 +91,29 @@ fn on_weekday(reckoned: u32, weekday: u32) -> NumberAnswer
 {
     let ahead = (weekday + 7 - reckoned % 7) % 7;
     if ahead == 0 {
-        return number(reckoned);
+        number(reckoned)
+    } else if ahead == 1 {
+        number(reckoned + 1)
+    } else if ahead == 6 {
+        day_before(reckoned)
+    } else {
+        refused(refusal::NO_SUCH_WEEKDAY)
     }
-    if ahead == 1 {
-        return number(reckoned + 1);
+}
+
+// Day -1, before day 0, is out of range.
+fn day_before(day: u32) -> NumberAnswer
+    ensures { λ r. ⌜ r ≡ numberAt (predℤ (pos day)) ⌝ }
+{
+    if day == 0 {
+        refused(refusal::OUT_OF_RANGE)
+    } else {
+        number(day - 1)
     }
-    if ahead == 6 {
-        // The day before day 0 has no number.
-        if reckoned == 0 {
-            return refused(refusal::OUT_OF_RANGE);
-        }
-        return number(reckoned - 1);
-    }
-    refused(refusal::NO_SUCH_WEEKDAY)
 }
 
 fn number(day: u32) -> NumberAnswer
-    ensures { λ r. ⌜ r ≡ numbered day ⌝ }
+    ensures { λ r. ⌜ r ≡ numberAt (pos day) ⌝ }
 {
     if day <= Day::LAST {
         NumberAnswer {
