@@ -1,8 +1,7 @@
 // The Saka lunar date to a day: the mean reckoning, mended by the weekday.
-use days::refusal;
 use days::Day;
 use days::NumberAnswer;
-
+use days::refusal;
 ghost use mathlib.Core.Bool.{true};
 ghost use mathlib.Core.Path.{_≡_};
 ghost use Prim.Native.Nat.{_<_};
@@ -128,8 +127,5 @@ fn number(day: u32) -> NumberAnswer
 fn refused(refusal: u32) -> NumberAnswer
     ensures { λ r. ⌜ r ≡ noNumber refusal ⌝ }
 {
-    NumberAnswer {
-        refusal,
-        number: 0,
-    }
+    NumberAnswer { refusal, number: 0 }
 }

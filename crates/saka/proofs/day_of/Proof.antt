@@ -38,9 +38,10 @@ refused-requires-2 c κs = search needs
 returns-2 : tie.Need-returns-2
 unfolding lunarDay
 returns-2 c =
-    rw
-    (fields-ok (c .before .before .before),
-    sym (c .before .before .year-in-range .ensures) ∙ not-true _ (c .before .if2 .taken))
+    rw (
+      fields-ok (c .before .before .before),
+      sym (c .before .before .year-in-range .ensures) ∙ not-true _ (c .before .if2 .taken),
+    )
     (c .refused2 .ensures)
 
 reckoned-day-requires : tie.Need-reckoned-day-requires
