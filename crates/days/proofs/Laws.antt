@@ -1,12 +1,14 @@
 -- The laws of days and pairs: a number and its pair are one day, the weekday by the pair, and the step case by case; by arithmetic on 4016 C + A.
 -- Assumes nothing.
-use mathlib.Core.Bool.{Bool, true, false, cond, _&&_, false≢true}
+use mathlib.Core.Bool.{Bool, true, false, _&&_, false≢true}
 use mathlib.Core.Path.{_≡_, refl, ap, _∙_}
 use Prim.Native.Nat.{ℕ, _+_, _*_, _/_, _%_, _<_, _≤_}
+use native.Mathlib.Decide.{decLe}
 use native.Mathlib.Omega.{arith}
 use lib.Dec.{ltb}
 use borrow.Author.Tests.{ltb-true, lt-ltb, le-leb, lt-leb}
 use Rattle.days.specs.declared.Day.{Day}
+use Rattle.days.specs.declared.DayAnswer.{DayAnswer}
 use Rattle.days.specs.Refusals.{outOfRange}
 use Rattle.days.specs.Days.{cycleDays, cycles, lastDay, count, weekdayOn, pairAt, theDay, noDay, inRange, dayOf, nextOf}
 
@@ -34,6 +36,28 @@ day-of n h = rw (le-leb _ _ h)
 pub past-last : (n : ℕ) → lastDay < n → dayOf n ≡ noDay outOfRange
 unfolding dayOf
 past-last n h = rw (lt-leb _ _ h)
+
+-- an answer that is day n's, accepted: there is such a day, and it is its pair
+pub record ThatDay (n : ℕ) (answer : DayAnswer) : Type 0 where
+  pub number : n ≤ lastDay
+  pub pair : answer .day ≡ pairAt n
+  pub range : inRange (answer .day) ≡ true
+
+pub that-day : (n : ℕ) (answer : DayAnswer) → answer ≡ dayOf n → answer .refusal ≡ 0 → ThatDay n answer
+that-day n answer e r = go (decLe n lastDay)
+  where
+    go : Dec (n ≤ lastDay) → ThatDay n answer
+    go (yes h) =
+        let p : answer .day ≡ pairAt n = ap (λ (a : DayAnswer). a .day) (e ∙ day-of n h) in
+        record { number = h; pair = p; range = ap inRange p ∙ pair-in-range n h }
+    go (no h) = absurd (omega (arith, ap (λ (a : DayAnswer). a .refusal) (e ∙ past-last n (omega arith))))
+
+pub no-such-day : (n : ℕ) (answer : DayAnswer) → answer ≡ dayOf n → (answer .refusal ≡ 0 → ⊥) → lastDay < n
+no-such-day n answer e r = go (decLe n lastDay)
+  where
+    go : Dec (n ≤ lastDay) → lastDay < n
+    go (yes h) = absurd (r (ap (λ (a : DayAnswer). a .refusal) (e ∙ day-of n h)))
+    go (no h) = omega arith
 
 -- number and pair, both ways
 pub count-pair : (n : ℕ) → count (pairAt n) ≡ n

@@ -1,0 +1,76 @@
+//! The calls of the two static archives: `host`, the museum's C calls, and `bridge`, a test library
+//! that reaches the search with every condition. A number of a refused call is 0.
+
+#[link(name = "host", kind = "static")]
+unsafe extern "C" {
+    pub safe fn graha_date_result(year: u32, month: u32, day: u32) -> u32;
+    pub safe fn graha_date_day(year: u32, month: u32, day: u32) -> u32;
+
+    pub safe fn graha_day_result(day: u32) -> u32;
+    pub safe fn graha_day_year(day: u32) -> u32;
+    pub safe fn graha_day_month(day: u32) -> u32;
+    pub safe fn graha_day_of_month(day: u32) -> u32;
+    pub safe fn graha_day_cycle(day: u32) -> u32;
+    pub safe fn graha_day_within(day: u32) -> u32;
+    pub safe fn graha_day_weekday(day: u32) -> u32;
+
+    pub safe fn graha_pair_result(cycle: u32, within: u32) -> u32;
+    pub safe fn graha_pair_day(cycle: u32, within: u32) -> u32;
+    pub safe fn graha_next_result(cycle: u32, within: u32) -> u32;
+    pub safe fn graha_next_cycle(cycle: u32, within: u32) -> u32;
+    pub safe fn graha_next_within(cycle: u32, within: u32) -> u32;
+
+    pub safe fn graha_saka_result(year: u32, months: u32, tithis: u32, weekday: u32) -> u32;
+    pub safe fn graha_saka_day(year: u32, months: u32, tithis: u32, weekday: u32) -> u32;
+
+    pub safe fn graha_mean_sun(day: u32) -> u32;
+    pub safe fn graha_mean_moon(day: u32) -> u32;
+    pub safe fn graha_moon_apogee(day: u32) -> u32;
+    pub safe fn graha_moon_node(day: u32) -> u32;
+    pub safe fn graha_mean_mars(day: u32) -> u32;
+    pub safe fn graha_mercury_anomaly(day: u32) -> u32;
+    pub safe fn graha_mean_jupiter(day: u32) -> u32;
+    pub safe fn graha_venus_anomaly(day: u32) -> u32;
+    pub safe fn graha_mean_saturn(day: u32) -> u32;
+
+    pub safe fn graha_true_sun(day: u32) -> u32;
+    pub safe fn graha_true_moon(day: u32) -> u32;
+    pub safe fn graha_tithi(day: u32) -> u32;
+    pub safe fn graha_nakshatra(day: u32) -> u32;
+    pub safe fn graha_yoga(day: u32) -> u32;
+    pub safe fn graha_karana(day: u32) -> u32;
+
+    /// The list is `list_len` bytes from `list`, which the caller lends for the call.
+    pub fn graha_search(
+        first: u32,
+        last: u32,
+        sun_start: u32,
+        sun_width: u32,
+        weekday: u32,
+        list: *mut u8,
+        list_len: usize,
+    ) -> u32;
+    pub safe fn graha_search_length(
+        first: u32,
+        last: u32,
+        sun_start: u32,
+        sun_width: u32,
+        weekday: u32,
+    ) -> u32;
+    pub safe fn graha_search_looked(
+        first: u32,
+        last: u32,
+        sun_start: u32,
+        sun_width: u32,
+        weekday: u32,
+    ) -> u32;
+}
+
+#[link(name = "bridge", kind = "static")]
+unsafe extern "C" {
+    /// Query and list are lent for the call, as many bytes as each length says.
+    pub fn bridge_search(query: *const u8, query_len: usize, list: *mut u8, list_len: usize)
+        -> u32;
+    pub fn bridge_length(query: *const u8, query_len: usize) -> u32;
+    pub fn bridge_looked(query: *const u8, query_len: usize) -> u32;
+}

@@ -1,0 +1,101 @@
+//! Counts the comparisons; ends the run at the first difference.
+
+use std::fmt::Debug;
+use std::time::Instant;
+
+pub struct Checks {
+    part: &'static str,
+    begun: Instant,
+    in_part: u64,
+    total: u64,
+}
+
+impl Checks {
+    pub fn new() -> Checks {
+        Checks {
+            part: "",
+            begun: Instant::now(),
+            in_part: 0,
+            total: 0,
+        }
+    }
+
+    pub fn total(&self) -> u64 {
+        self.total
+    }
+
+    /// Runs a part and prints its number of checks.
+    pub fn part(&mut self, name: &'static str, run: impl FnOnce(&mut Checks)) {
+        self.part = name;
+        self.begun = Instant::now();
+        self.in_part = 0;
+        run(self);
+        self.total += self.in_part;
+        let seconds = self.begun.elapsed().as_secs_f64();
+        println!("{name}: {} checks, {seconds:.1} s", self.in_part);
+    }
+
+    /// One comparison. The input's text is made only for a difference.
+    pub fn same<T: PartialEq + Debug>(
+        &mut self,
+        call: &str,
+        input: impl FnOnce() -> String,
+        expected: T,
+        came: T,
+    ) {
+        self.in_part += 1;
+        if expected != came {
+            self.differ(
+                call,
+                &input(),
+                &format!("{expected:?}"),
+                &format!("{came:?}"),
+            );
+        }
+    }
+
+    /// A number that has a limit and no more to compare with.
+    pub fn at_most(&mut self, call: &str, input: impl FnOnce() -> String, limit: u32, came: u32) {
+        self.in_part += 1;
+        if came > limit {
+            self.differ(
+                call,
+                &input(),
+                &format!("at most {limit}"),
+                &came.to_string(),
+            );
+        }
+    }
+
+    /// Every byte of some lent memory; of a difference, the first byte is named.
+    pub fn same_bytes(
+        &mut self,
+        call: &str,
+        input: impl FnOnce() -> String,
+        expected: &[u8],
+        came: &[u8],
+    ) {
+        self.in_part += 1;
+        if expected != came {
+            let at = expected
+                .iter()
+                .zip(came)
+                .take_while(|(e, c)| e == c)
+                .count();
+            let around = |bytes: &[u8]| {
+                let end = bytes.len().min(at + 8);
+                format!("from byte {at} of {}: {:?}", bytes.len(), &bytes[at..end])
+            };
+            self.differ(call, &input(), &around(expected), &around(came));
+        }
+    }
+
+    fn differ(&self, call: &str, input: &str, expected: &str, came: &str) -> ! {
+        println!("{}: a difference after {} checks", self.part, self.in_part);
+        println!("  call:     {call}");
+        println!("  input:    {input}");
+        println!("  expected: {expected}");
+        println!("  came:     {came}");
+        std::process::exit(1);
+    }
+}

@@ -1,0 +1,33 @@
+//! The independent second program: it reckons everything anew from paper 01 (`reference`) and
+//! compares each answer of the proved programs with its own (`runs`). README.md says how.
+
+mod calls;
+mod checks;
+mod random;
+mod reference;
+mod runs;
+
+use checks::Checks;
+use reference::almanac::Almanac;
+
+fn main() {
+    let almanac = Almanac::from_epoch();
+    let mut checks = Checks::new();
+    checks.part("the paper's cases", |checks| {
+        runs::worked::run(checks, &almanac)
+    });
+    checks.part("days", |checks| runs::days::run(checks, &almanac));
+    checks.part("pairs and steps", runs::pairs::run);
+    checks.part("civil dates", |checks| runs::civil::run(checks, &almanac));
+    checks.part("Saka dates", runs::saka::run);
+    checks.part("host searches", |checks| {
+        runs::host_search::run(checks, &almanac)
+    });
+    checks.part("general searches", |checks| {
+        runs::general_search::run(checks, &almanac)
+    });
+    checks.part("day sheets", |checks| {
+        runs::day_sheet::run(checks, &almanac)
+    });
+    println!("compare: {} checks, 0 differences", checks.total());
+}

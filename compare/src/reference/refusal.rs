@@ -1,0 +1,20 @@
+//! Paper 01, "Refusals by number".
+
+pub const NO_SUCH_DATE: u32 = 1;
+pub const OUT_OF_RANGE: u32 = 2;
+pub const BAD_INPUT: u32 = 3;
+pub const WEEKDAY_DISAGREES: u32 = 4;
+pub const LAST_BEFORE_FIRST: u32 = 5;
+pub const BAD_CONDITION: u32 = 6;
+pub const LIST_TOO_SHORT: u32 = 7;
+
+/// What a rule gives: its values, or the number of its refusal.
+pub type Answer<T> = Result<T, u32>;
+
+/// "Result 0 means accepted."
+pub fn result_number<T>(answer: &Answer<T>) -> u32 {
+    match answer {
+        Ok(_) => 0,
+        Err(refusal) => *refusal,
+    }
+}

@@ -1,0 +1,201 @@
+//! Paper 01, "A reading and its walk". A reading is here a query, a fitting day a matching day,
+//! the walk's days are the visited days, and a place of the lent list is an entry.
+
+use super::almanac::{Almanac, Day};
+use super::days::LAST_DAY;
+use super::exact::{reduced, Fraction};
+use super::longitudes::SUN;
+use super::refusal::{Answer, BAD_CONDITION, LAST_BEFORE_FIRST, LIST_TOO_SHORT, OUT_OF_RANGE};
+
+/// "An arc: a start, and a width from 1 to 1,296,000."
+#[derive(Clone, Copy, Debug)]
+pub struct Arc {
+    pub start: u32,
+    pub width: u32,
+}
+
+impl Arc {
+    pub const fn new(start: u32, width: u32) -> Arc {
+        Arc { start, width }
+    }
+
+    fn well_formed(self) -> bool {
+        self.start <= 1_295_999 && self.width >= 1 && self.width <= 1_296_000
+    }
+
+    /// "A place is in the arc if (place − start), reduced by whole circles, is below the width."
+    fn holds(self, place: u32) -> bool {
+        reduced(i128::from(place) - i128::from(self.start)) < self.width
+    }
+
+    /// g, the "seconds forward to the arc's start".
+    fn ahead(self, place: u32) -> u32 {
+        reduced(i128::from(self.start) - i128::from(place))
+    }
+}
+
+/// "A reading has a first and a last day, both counted, and optionally one weekday, one tithi, one
+/// nakshatra, one yoga, and for each of the nine mean places an arc."
+#[derive(Clone, Debug)]
+pub struct Query {
+    pub first: u32,
+    pub last: u32,
+    pub weekday: Option<u32>,
+    pub tithi: Option<u32>,
+    pub nakshatra: Option<u32>,
+    pub yoga: Option<u32>,
+    pub arcs: [Option<Arc>; 9],
+}
+
+/// What the search has to give where it isn't refused before the list is looked at.
+pub struct Found {
+    /// "A fitting day is a day of the span that meets all conditions given."
+    pub matching: Vec<u32>,
+    /// The days of the walk.
+    pub visited: Vec<u32>,
+    /// The most that may be visited; none where no Sun arc is given.
+    pub limit: Option<u32>,
+}
+
+/// True if nothing is asked, or if what is asked meets the test.
+fn asked<T: Copy>(condition: Option<T>, test: impl Fn(T) -> bool) -> bool {
+    condition.map_or(true, test)
+}
+
+impl Query {
+    pub fn without_conditions(first: u32, last: u32) -> Query {
+        Query {
+            first,
+            last,
+            weekday: None,
+            tithi: None,
+            nakshatra: None,
+            yoga: None,
+            arcs: [None; 9],
+        }
+    }
+
+    /// The host's search "gives just a Sun arc and a weekday, both always" ("What the table
+    /// reckons").
+    pub fn of_host(first: u32, last: u32, sun: Arc, weekday: u32) -> Query {
+        let mut query = Query::without_conditions(first, last);
+        query.weekday = Some(weekday);
+        query.arcs[SUN] = Some(sun);
+        query
+    }
+
+    /// "Refusals by number", 6: "weekday 6, tithi 29, nakshatra and yoga 26 are the largest; arc
+    /// start 1,295,999; width as above".
+    fn conditions_in_range(&self) -> bool {
+        asked(self.weekday, |weekday| weekday <= 6)
+            && asked(self.tithi, |tithi| tithi <= 29)
+            && asked(self.nakshatra, |nakshatra| nakshatra <= 26)
+            && asked(self.yoga, |yoga| yoga <= 26)
+            && self.arcs.iter().all(|arc| asked(*arc, Arc::well_formed))
+    }
+
+    /// "Order: search 2, 5, 6, 7"; 7 needs the list and comes later.
+    fn well_formed(&self) -> Answer<()> {
+        if self.first > LAST_DAY || self.last > LAST_DAY {
+            Err(OUT_OF_RANGE)
+        } else if self.last < self.first {
+            Err(LAST_BEFORE_FIRST)
+        } else if !self.conditions_in_range() {
+            Err(BAD_CONDITION)
+        } else {
+            Ok(())
+        }
+    }
+
+    /// "Meets all conditions given, by the weekday, tithi, nakshatra, yoga and mean places that
+    /// the rules above give that day." "A reading without conditions fits every day."
+    fn matches(&self, day: &Day) -> bool {
+        asked(self.weekday, |weekday| weekday == day.weekday)
+            && asked(self.tithi, |tithi| tithi == day.tithi)
+            && asked(self.nakshatra, |nakshatra| nakshatra == day.nakshatra)
+            && asked(self.yoga, |yoga| yoga == day.yoga)
+            && (0..9).all(|body| asked(self.arcs[body], |arc| arc.holds(day.mean[body])))
+    }
+
+    /// "Fitting days are defined from the span alone and not from the walk": every day is tested.
+    fn matching_days(&self, days: &[Day]) -> Vec<u32> {
+        (self.first..=self.last)
+            .filter(|day| self.matches(&days[*day as usize]))
+            .collect()
+    }
+
+    /// "After a day whose mean Sun is in the Sun's arc, and always where no Sun arc is given,
+    /// comes the next day. After a day outside it with g seconds forward to the arc's start comes
+    /// the day g / 3549, rounded up, later."
+    fn visited_after(&self, number: u32, day: &Day) -> u32 {
+        match self.arcs[SUN] {
+            Some(arc) if !arc.holds(day.mean[SUN]) => {
+                let g = i128::from(arc.ahead(day.mean[SUN]));
+                number + Fraction::new(g, 3549).ceiling() as u32
+            }
+            _ => number + 1,
+        }
+    }
+
+    /// "The walk starts at the first day. [...] It ends past the last day."
+    fn visited_days(&self, days: &[Day]) -> Vec<u32> {
+        let mut visited = Vec::new();
+        let mut number = self.first;
+        while number <= self.last {
+            visited.push(number);
+            number = self.visited_after(number, &days[number as usize]);
+        }
+        visited
+    }
+
+    /// "The whole 360 days of a span are its days, both ends counted, divided by 360 and rounded
+    /// down." The limit of demand 3 on the days looked at, where a Sun arc is given: the days of the
+    /// span in the arc, and four, and two for each whole 360 days.
+    fn limit(&self, days: &[Day]) -> Option<u32> {
+        let arc = self.arcs[SUN]?;
+        let span = &days[self.first as usize..=self.last as usize];
+        let inside = span.iter().filter(|day| arc.holds(day.mean[SUN])).count() as u32;
+        Some(inside + 2 * (span.len() as u32 / 360) + 4)
+    }
+
+    pub fn search(&self, almanac: &Almanac) -> Answer<Found> {
+        self.well_formed()?;
+        Ok(Found {
+            matching: self.matching_days(almanac.days()),
+            visited: self.visited_days(almanac.days()),
+            limit: self.limit(almanac.days()),
+        })
+    }
+}
+
+impl Found {
+    /// "The lent room suffices if the list has at least as many places as the span has fitting
+    /// days"; otherwise 7.
+    pub fn result_for(&self, entries: usize) -> u32 {
+        if self.matching.len() <= entries {
+            0
+        } else {
+            LIST_TOO_SHORT
+        }
+    }
+
+    /// The walk comes to every fitting day, or the paper's jump were wrong.
+    pub fn walk_misses_none(&self) -> bool {
+        let visited = |day: &u32| self.visited.binary_search(day).is_ok();
+        self.matching.iter().all(visited)
+    }
+
+    /// A list of bytes after the search: "four a day, low byte first, and a tail under four bytes
+    /// is no place and stays as it was" ("What the table reckons"). "Lent memory is untouched by
+    /// each refusal; on acceptance the places behind the list stay as they were" ("Refusals by
+    /// number").
+    pub fn list_after(&self, before: &[u8]) -> Vec<u8> {
+        let mut after = before.to_vec();
+        if self.result_for(before.len() / 4) == 0 {
+            for (entry, day) in after.chunks_exact_mut(4).zip(&self.matching) {
+                entry.copy_from_slice(&day.to_le_bytes());
+            }
+        }
+        after
+    }
+}

@@ -1,0 +1,29 @@
+//! The comparisons, a file for each part.
+
+pub mod civil;
+pub mod day_sheet;
+pub mod days;
+pub mod general_search;
+pub mod host_search;
+pub mod pairs;
+pub mod queries;
+pub mod saka;
+pub mod searches;
+pub mod worked;
+
+/// Numbers at and about the powers of two where a narrower type would wrap.
+pub const WIDTH_EDGES: [u32; 13] = [
+    255,
+    256,
+    257,
+    32_767,
+    32_768,
+    65_535,
+    65_536,
+    65_537,
+    i32::MAX as u32,
+    1 << 31,
+    (1 << 31) + 1,
+    u32::MAX - 1,
+    u32::MAX,
+];

@@ -1,0 +1,111 @@
+//! Spans and arcs to search for: at the edges, and random.
+
+use crate::random::Random;
+use crate::reference::almanac::Almanac;
+use crate::reference::days::LAST_DAY;
+use crate::reference::longitudes::SUN;
+use crate::reference::search::Arc;
+
+/// First and last day.
+pub type Span = (u32, u32);
+
+/// Spans that are refused: with 2 for either end or both, some of them reversed too, and with 5.
+pub const REFUSED_SPANS: [Span; 9] = [
+    (LAST_DAY + 1, LAST_DAY + 1),
+    (0, LAST_DAY + 1),
+    (LAST_DAY + 1, 0),
+    (u32::MAX, u32::MAX),
+    (u32::MAX, 0),
+    (1 << 31, 5),
+    (1, 0),
+    (LAST_DAY, LAST_DAY - 1),
+    (LAST_DAY, 0),
+];
+
+/// Arcs that are refused with 6, by their start, their width or both.
+pub const REFUSED_ARCS: [Arc; 7] = [
+    Arc::new(0, 0),
+    Arc::new(1_295_999, 1_296_001),
+    Arc::new(5, u32::MAX),
+    Arc::new(1_296_000, 1),
+    Arc::new(u32::MAX, 3600),
+    Arc::new(1_296_000, 0),
+    Arc::new(1 << 31, 1 << 31),
+];
+
+/// The entries of the longest list to lend: one for each day of the span, and some where the span
+/// is refused.
+pub fn most_entries((first, last): Span) -> usize {
+    if first <= last && last <= LAST_DAY {
+        (last - first + 1) as usize
+    } else {
+        10
+    }
+}
+
+/// A span of at most `most` days: one day, a few, or many, often across a cycle's turn, sometimes
+/// at an end of the table.
+pub fn random_span(random: &mut Random, most: u32) -> Span {
+    let longest = random.one_of(&[1, 3, 40, most / 2, most]).clamp(1, most);
+    let days = random.between(1, longest);
+    let latest_first = LAST_DAY + 1 - days;
+    let first = match random.below(6) {
+        0 => 0,
+        1 => latest_first,
+        2 | 3 => {
+            let turn = 4016 * random.between(1, 99);
+            turn.saturating_sub(random.between(0, days))
+                .min(latest_first)
+        }
+        _ => random.between(0, latest_first),
+    };
+    (first, first + days - 1)
+}
+
+/// A width, often at an edge.
+pub fn random_width(random: &mut Random) -> u32 {
+    match random.below(8) {
+        0 => 1,
+        1 => 2,
+        2 => 1_295_999,
+        3 => 1_296_000,
+        4 => random.between(3540, 3560),
+        5 | 6 => random.between(1, 120_000),
+        _ => random.between(1, 1_296_000),
+    }
+}
+
+/// An arc that holds a place, with the place often at one of its ends.
+pub fn arc_around(random: &mut Random, place: u32) -> Arc {
+    let width = random_width(random);
+    let into = match random.below(4) {
+        0 => 0,
+        1 => width - 1,
+        _ => random.below(width),
+    };
+    Arc::new((place + 1_296_000 - into) % 1_296_000, width)
+}
+
+/// An arc anywhere; it crosses 0 as often as chance has it, and every fourth time surely (but for
+/// widths of 1).
+pub fn random_arc(random: &mut Random) -> Arc {
+    let width = random_width(random);
+    let start = if random.once_in(4) {
+        1_296_000 - random.between(1, width)
+    } else {
+        random.below(1_296_000)
+    };
+    Arc::new(start, width)
+}
+
+/// A Sun arc whose start is a whole multiple of 3549 seconds ahead of a day's mean Sun, or a second
+/// beside: where the walk's rounding matters most.
+pub fn arc_ahead(random: &mut Random, almanac: &Almanac, day: u32) -> Arc {
+    let place = almanac.days()[day as usize].mean[SUN];
+    let multiple = 3549 * random.one_of(&[1, 1, 1, 2, 3, 30, 200, 364]);
+    let beside = random.one_of(&[0, 0, 1, 1_295_999]);
+    Arc::new(
+        (place + multiple + beside) % 1_296_000,
+        random.one_of(&[1, 1, 2, 3549]),
+    )
+}

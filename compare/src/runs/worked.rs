@@ -1,0 +1,203 @@
+//! The cases that paper 01 states itself, starred or not, held against the second program alone,
+//! before it is compared with anything: so that both programs are held to the paper.
+
+use crate::checks::Checks;
+use crate::reference::almanac::Almanac;
+use crate::reference::civil::Date;
+use crate::reference::days::LAST_DAY;
+use crate::reference::longitudes::{MOON, MOON_APOGEE, SUN};
+use crate::reference::saka::SakaDate;
+use crate::reference::search::{Arc, Query};
+use crate::reference::sheet::day_sheet;
+
+const MONDAY: u32 = 0;
+const TUESDAY: u32 = 1;
+const WEDNESDAY: u32 = 2;
+const FRIDAY: u32 = 4;
+const SATURDAY: u32 = 5;
+const SUNDAY: u32 = 6;
+
+/// "Days on both sides", the dates.
+fn dates(checks: &mut Checks, almanac: &Almanac) {
+    let cases = [
+        ((19, 3, 1520), Ok(0)),
+        ((18, 3, 1520), Err(2)),
+        ((4, 10, 1582), Ok(22844)),
+        ((15, 10, 1582), Ok(22845)),
+        ((10, 10, 1582), Err(1)),
+        ((29, 2, 1700), Err(1)),
+        ((1, 1, 2000), Ok(43 * 4016 + 2541)),
+        ((13, 10, 2619), Ok(401599)),
+        ((14, 10, 2619), Err(2)),
+        ((14, 5, 1612), Ok(33649)),
+    ];
+    for ((day, month, year), expected) in cases {
+        let date = Date { year, month, day };
+        checks.same(
+            "the day of a date",
+            || format!("{date:?}"),
+            expected,
+            almanac.number_of(date),
+        );
+        if let Ok(number) = expected {
+            let back = almanac.days()[number as usize].date;
+            checks.same("the date of a day", || format!("day {number}"), date, back);
+        }
+    }
+    for (number, expected) in [
+        (0, MONDAY),
+        (22845, FRIDAY),
+        (175229, SATURDAY),
+        (401599, WEDNESDAY),
+    ] {
+        let weekday = almanac.days()[number].weekday;
+        checks.same("the weekday", || format!("day {number}"), expected, weekday);
+    }
+    let pair = almanac.days()[175229].pair;
+    let came = (pair.cycle, pair.within);
+    checks.same(
+        "cycle and day within it",
+        || "1 January 2000".to_string(),
+        (43, 2541),
+        came,
+    );
+}
+
+/// "Days, cycles and weekdays": what the heading says of every day.
+fn every_day(checks: &mut Checks, almanac: &Almanac) {
+    let count = almanac.days().len();
+    checks.same(
+        "the number of days",
+        || "the table".to_string(),
+        LAST_DAY as usize + 1,
+        count,
+    );
+    for (number, day) in (0..).zip(almanac.days()) {
+        let input = || format!("day {number}");
+        let (c, a) = (day.pair.cycle, day.pair.within);
+        checks.same("day = 4016 × C + A", input, number, 4016 * c + a);
+        checks.same("weekday: day mod 7", input, number % 7, day.weekday);
+        checks.same(
+            "weekday: (5C + A) mod 7",
+            input,
+            (5 * c + a) % 7,
+            day.weekday,
+        );
+    }
+}
+
+/// "Days on both sides", the places and limbs.
+fn places(checks: &mut Checks, almanac: &Almanac) {
+    let days = almanac.days();
+    let at_epoch = [
+        1258860, 1256760, 603180, 99480, 1105680, 970380, 764160, 828540, 1027260,
+    ];
+    checks.same(
+        "the nine mean places",
+        || "day 0".to_string(),
+        at_epoch,
+        days[0].mean,
+    );
+    let epoch = &days[0];
+    let came = [
+        epoch.sun,
+        epoch.moon,
+        epoch.tithi,
+        epoch.nakshatra,
+        epoch.yoga,
+        epoch.karana,
+    ];
+    let expected = [1266701, 1257257, 29, 26, 25, 10];
+    checks.same(
+        "true Sun and Moon, and limbs",
+        || "day 0".to_string(),
+        expected,
+        came,
+    );
+
+    let (before, after) = (days[4015].mean[SUN], days[4016].mean[SUN]);
+    checks.same("mean Sun", || "day 4015".to_string(), 1248768, before);
+    checks.same("mean Sun", || "day 4016".to_string(), 1252309, after);
+    checks.same(
+        "the Sun's advance",
+        || "day 4015".to_string(),
+        3541,
+        after - before,
+    );
+
+    let mean = days[33649].mean;
+    let came = [mean[SUN], mean[MOON], mean[MOON_APOGEE]];
+    let input = || "day 33649".to_string();
+    checks.same(
+        "mean Sun, Moon and apogee",
+        input,
+        [123220, 720622, 1133683],
+        came,
+    );
+}
+
+/// "Days on both sides", the Saka dates.
+fn saka_dates(checks: &mut Checks) {
+    let cases = [
+        ((1534, 1, 14, MONDAY), Ok(33649)),
+        ((1442, 0, 0, MONDAY), Ok(0)),
+        ((1442, 0, 0, SUNDAY), Err(2)),
+        ((1442, 0, 0, TUESDAY), Ok(1)),
+        ((1442, 0, 0, WEDNESDAY), Err(4)),
+    ];
+    for ((year, months, tithis, weekday), expected) in cases {
+        let date = SakaDate {
+            year,
+            months,
+            tithis,
+            weekday,
+        };
+        checks.same(
+            "the day of a Saka date",
+            || format!("{date:?}"),
+            expected,
+            date.day(),
+        );
+    }
+}
+
+/// "Days on both sides", the search: "days 0 to 729, Sun's arc from 0, width 3600".
+fn search(checks: &mut Checks, almanac: &Almanac) {
+    let mut query = Query::without_conditions(0, 729);
+    query.arcs[SUN] = Some(Arc::new(0, 3600));
+    let input = || format!("{query:?}");
+    let Ok(found) = query.search(almanac) else {
+        return checks.same("the search is accepted", input, true, false);
+    };
+    checks.same("the list", input, vec![11, 376], found.matching.clone());
+    checks.same(
+        "looked at",
+        input,
+        vec![0, 11, 12, 376, 377],
+        found.visited.clone(),
+    );
+    checks.same("room for two", input, 0, found.result_for(2));
+    checks.same("room for one", input, 7, found.result_for(1));
+}
+
+/// "What the table reckons": the sheet of day 33649.
+fn sheet(checks: &mut Checks, almanac: &Almanac) {
+    let expected = "day cycle within weekday sun moon tithi nakshatra yoga karana\n\
+                    33649 8 1521 0 128648 737042 14 15 18 7\n";
+    let came = day_sheet(almanac, b"33649\n");
+    checks.same(
+        "the day sheet",
+        || "33649".to_string(),
+        expected.to_string(),
+        came,
+    );
+}
+
+pub fn run(checks: &mut Checks, almanac: &Almanac) {
+    dates(checks, almanac);
+    every_day(checks, almanac);
+    places(checks, almanac);
+    saka_dates(checks);
+    search(checks, almanac);
+    sheet(checks, almanac);
+}

@@ -1,0 +1,50 @@
+-- Reduction in naturals: of an integer a − b, t whole turns are put on first, so that what is reduced is a natural.
+-- Assumes nothing.
+use mathlib.Core.Path.{_≡_, sym, ap, _∙_}
+use Prim.Native.Nat.{ℕ, suc, _+_, _*_, _/_, _%_, _<_}
+use native.Mathlib.Omega.{arith}
+use native.Mathlib.Nat.{add-mul-div-right, add-mul-mod-self-right, div-add-mod', mod-lt, lt-of-mul-lt-mul-right}
+use lib.IntN.{ℤ, pos, negsuc}
+use Rattle.integers.specs.Integers.{floorOver, reduced}
+use Rattle.integers.proofs.Less.{Less}
+
+pub reduced-small : (z : ℤ) (m : ℕ) → 0 < m → reduced z m < m
+unfolding reduced
+reduced-small (pos n) m h = mod-lt n h
+reduced-small (negsuc n) m h = omega arith
+
+-- where x + y + 1 is s times q, the quotients are s less one together
+quotients : (x y s q : ℕ) → 0 < q → x + suc y ≡ s * q → x / q + suc (y / q) ≡ s
+quotients x y s q h e =
+    let dx = div-add-mod' x q in
+    let dy = div-add-mod' y q in
+    let mx = mod-lt x h in
+    let my = mod-lt y h in
+    let low : x / q + y / q < s = lt-of-mul-lt-mul-right q (omega arith) in
+    let high : s < x / q + y / q + 2 = lt-of-mul-lt-mul-right q (omega arith) in
+    omega arith
+
+-- and the remainders q less one
+remainders : (x y s q : ℕ) → 0 < q → x + suc y ≡ s * q → x % q + suc (y % q) ≡ q
+remainders x y s q h e =
+    omega (arith, ap (λ (t : ℕ). t * q) (quotients x y s q h e), div-add-mod' x q, div-add-mod' y q)
+
+pub less-reduced : (z : ℤ) (a b N m t : ℕ) → 0 < m → Less z a b → a + t * m ≡ b + N → reduced z m ≡ N % m
+unfolding reduced
+less-reduced (pos n) a b N m t hm h e =
+    let w : N ≡ n + t * m = omega arith in
+    sym (ap (λ (x : ℕ). x % m) w ∙ add-mul-mod-self-right n t m)
+less-reduced (negsuc n) a b N m t hm h e =
+    let w : N + suc n ≡ t * m = omega arith in
+    omega (arith, remainders N n t m hm w)
+
+-- the same of the floor of an integer over q
+pub floor-reduced : (z : ℤ) (a b N q m t : ℕ) → 0 < q → 0 < m → Less z a b → a + t * m * q ≡ b + N → reduced (floorOver z q) m ≡ N / q % m
+unfolding floorOver reduced
+floor-reduced (pos n) a b N q m t hq hm h e =
+    let w : N ≡ n + t * m * q = omega arith in
+    sym (ap (λ (x : ℕ). x / q % m) w ∙ ap (λ (x : ℕ). x % m) (add-mul-div-right n (t * m) hq) ∙ add-mul-mod-self-right (n / q) t m)
+floor-reduced (negsuc n) a b N q m t hq hm h e =
+    let w : N + suc n ≡ t * m * q = omega arith in
+    let v : N / q + suc (n / q) ≡ t * m = quotients N n (t * m) q hq w in
+    omega (arith, remainders (N / q) (n / q) t m hm v)

@@ -1,0 +1,6 @@
+pub mod Mean
+pub mod Table
+pub mod Motions
+pub mod Sun
+pub mod Subtraction
+pub mod Answers

@@ -1,0 +1,55 @@
+-- True longitudes are below a circle, and each element in its range: what is reduced is below what reduced it.
+-- Assumes nothing.
+use mathlib.Core.Bool.{Bool, true, false, cond}
+use mathlib.Core.Path.{_≡_, refl}
+use Prim.Native.Nat.{ℕ, _+_, _-_, _/_, _%_, _≤_, _<_}
+use native.Mathlib.Omega.{arith}
+use lib.Dec.{eqb, leb}
+use borrow.Author.Tests.{leb-false}
+use Rattle.days.specs.declared.Day.{Day}
+use Rattle.integers.proofs.Reduced.{reduced-small}
+use Rattle.longitudes.specs.Longitudes.{circle}
+use Rattle.panchanga.specs.TrueLongitudes.{difference, corrected, trueLongitude}
+use Rattle.panchanga.specs.Elements.{karanaAfter}
+use Rattle.panchanga.specs.OnDays.{trueSunAt, trueMoonAt, tithiAt, nakshatraAt, yogaAt, karanaAt}
+
+difference-small : (a b : ℕ) → difference a b < circle
+unfolding difference
+difference-small a b = reduced-small _ circle (omega arith)
+
+true-small : (scale divisor apogee mean : ℕ) → trueLongitude scale divisor apogee mean < circle
+unfolding trueLongitude corrected
+true-small scale divisor apogee mean = reduced-small _ circle (omega arith)
+
+pub sun-small : (d : Day) → trueSunAt d < circle
+unfolding trueSunAt
+sun-small d = true-small _ _ _ _
+
+pub moon-small : (d : Day) → trueMoonAt d < circle
+unfolding trueMoonAt
+moon-small d = true-small _ _ _ _
+
+pub tithi-small : (d : Day) → tithiAt d < 30
+unfolding tithiAt
+tithi-small d = omega (arith, difference-small (trueMoonAt d) (trueSunAt d))
+
+pub nakshatra-small : (d : Day) → nakshatraAt d < 27
+unfolding nakshatraAt
+nakshatra-small d = omega (arith, moon-small d)
+
+pub yoga-small : (d : Day) → yogaAt d < 27
+unfolding yogaAt
+yoga-small d = omega arith
+
+after-range : (h : ℕ) → h < 60 → (1 ≤ karanaAfter h) × (karanaAfter h ≤ 11)
+unfolding karanaAfter
+after-range h k = go (eqb h 0) (leb h 56) refl refl
+  where
+    go : (t u : Bool) → eqb h 0 ≡ t → leb h 56 ≡ u → (1 ≤ cond t 11 (cond u ((h - 1) % 7 + 1) (h - 49))) × (cond t 11 (cond u ((h - 1) % 7 + 1) (h - 49)) ≤ 11)
+    go true u e f = omega arith
+    go false true e f = omega arith
+    go false false e f = omega (arith, leb-false h 56 f)
+
+pub karana-range : (d : Day) → (1 ≤ karanaAt d) × (karanaAt d ≤ 11)
+unfolding karanaAt
+karana-range d = after-range (difference (trueMoonAt d) (trueSunAt d) / 21600) (omega (arith, difference-small (trueMoonAt d) (trueSunAt d)))

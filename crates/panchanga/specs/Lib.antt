@@ -1,0 +1,4 @@
+pub mod TrueLongitudes
+pub mod Elements
+pub mod OnDays
+pub mod Single

@@ -1,0 +1,50 @@
+-- `arcs_in_range` meets its contract. The loop's invariant: each arc passed is in range. The measure is the arcs left.
+use mathlib.Core.Path.{_≡_, sym, _∙_}
+use mathlib.Core.Bool.{true}
+use Prim.Native.Nat.{ℕ, _≤_, _<_, _-_}
+use native.Mathlib.Omega.{arith}
+use borrow.Author.Count.{below-none, below-more}
+use borrow.Author.Needs.{needs}
+use borrow.Author.Tests.{not-true, not-false}
+use Rattle.query.specs.Conditions.{arcAt, arcInRange}
+use Rattle.query.proofs.Conditions.{arcs-true, arcs-false}
+use Rattle.query.proofs.arcs_in_range.Statement.{statement}
+use Rattle.query.proofs.arcs_in_range.Tie as tie
+
+abbrev Inv-loop : tie.InvT-loop
+Inv-loop arcs body₀ body = (body ≤ 9) × ((k : ℕ) → k < body → arcInRange (arcAt arcs k) ≡ true)
+
+abbrev μ-loop : tie.MeasureT-loop
+μ-loop arcs body₀ body = 9 - body
+
+loop-holds : tie.Need-loop-holds Inv-loop μ-loop
+loop-holds c = (omega arith, below-none _)
+
+mul-arc : tie.Need-mul-arc Inv-loop μ-loop
+mul-arc c = search needs
+
+array-copy-out-arc : tie.Need-array-copy-out-arc Inv-loop μ-loop
+array-copy-out-arc c = search needs
+
+in-range-requires : tie.Need-in-range-requires Inv-loop μ-loop
+in-range-requires c κs = search needs
+
+returns : tie.Need-returns Inv-loop μ-loop
+returns c = sym (arcs-false _ (c .before .before .before .before .loop .body) (omega arith) (sym (c .before .in-range .ensures) ∙ not-true _ (c .if1 .taken)))
+
+add-body : tie.Need-add-body Inv-loop μ-loop
+add-body c = search needs
+
+loop-less : tie.Need-loop-less Inv-loop μ-loop
+loop-less c = search needs
+
+loop-again : tie.Need-loop-again Inv-loop μ-loop
+loop-again c = (omega arith, below-more _ _ (c .before .before .before .before .loop .inv .1) (sym (c .before .in-range .ensures) ∙ not-false _ (c .if1 .left)))
+
+returns-2 : tie.Need-returns-2 Inv-loop μ-loop
+returns-2 c = sym (arcs-true _ (λ k h. c .before .loop .inv .1 k (omega arith)))
+
+pub arcs-in-range-spec : {M : Type 1} → statement M
+arcs-in-range-spec =
+    tie.close
+    (tie.spec Inv-loop μ-loop loop-holds mul-arc array-copy-out-arc in-range-requires returns add-body loop-less loop-again returns-2)

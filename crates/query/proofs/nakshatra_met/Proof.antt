@@ -1,0 +1,25 @@
+-- `nakshatra_met` meets its contract: the nakshatra of a day in range is not refused.
+use borrow.Author.Needs.{needs}
+use mathlib.Core.Path.{ap, _∙_}
+use Rattle.days.specs.declared.NumberAnswer.{NumberAnswer}
+use Rattle.longitudes.proofs.Answers.{given}
+use Rattle.panchanga.specs.OnDays.{nakshatraAt}
+use Rattle.query.specs.Conditions.{meets}
+use Rattle.query.proofs.nakshatra_met.Statement.{statement}
+use Rattle.query.proofs.nakshatra_met.Tie as tie
+
+nakshatra-requires : tie.Need-nakshatra-requires
+nakshatra-requires c κs = search needs
+
+returns : tie.Need-returns
+unfolding meets
+returns c =
+    let found = ap (λ (n : NumberAnswer). n .number) (c .before .before .nakshatra .ensures ∙ given nakshatraAt (c .before .before .before .before .args .day) (c .before .before .before .before .pre)) in
+    rw (c .before .before .before .if1 .taken, found)
+
+returns-2 : tie.Need-returns-2
+unfolding meets
+returns-2 c = rw (c .if1 .left)
+
+pub nakshatra-met-spec : {M : Type 1} → statement M
+nakshatra-met-spec = tie.close (tie.spec nakshatra-requires returns returns-2)

@@ -1,0 +1,15 @@
+-- `weekday_met` meets its contract: the test is the meaning's.
+use Rattle.query.specs.Conditions.{meets}
+use Rattle.query.proofs.weekday_met.Statement.{statement}
+use Rattle.query.proofs.weekday_met.Tie as tie
+
+returns : tie.Need-returns
+unfolding meets
+returns c = rw (c .before .if1 .taken)
+
+returns-2 : tie.Need-returns-2
+unfolding meets
+returns-2 c = rw (c .if1 .left)
+
+pub weekday-met-spec : {M : Type 1} → statement M
+weekday-met-spec = tie.close (tie.spec returns returns-2)

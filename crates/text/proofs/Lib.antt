@@ -1,0 +1,7 @@
+pub mod Printing
+pub mod Reading
+pub mod RoundTrip
+pub mod Backwards
+pub mod Lines
+pub mod Putting
+pub mod Worked

@@ -1,0 +1,101 @@
+-- Laws of putting bytes on a line: one after another is all at once, the line's room stays as it is, and what fits is all
+-- there. Assumes nothing.
+use Prim.Native.Nat.{ℕ, _+_, _≤_, _<_}
+use mathlib.Core.Path.{_≡_, refl, sym, _∙_}
+use mathlib.Core.Bool.{Bool, true, false}
+use mathlib.Core.List.{List, [], _∷_, _++_, foldl-append, append-assoc, append-nil}
+use native.Mathlib.Omega.{arith}
+use native.Mathlib.Numerals.{add-one}
+use lib.Dec.{ltb}
+use lib.ListN.{length, set, length-set}
+use lib.Seq.{take-suc-set}
+use borrow.Author.Tests.{ltb-true, ltb-false, lt-ltb, le-ltb}
+use Rattle.text.specs.declared.Line.{Line}
+use Rattle.text.specs.Lines.{capacity, emptyLine, contents, withByte, withBytes}
+
+-- the line l with b put where its contents end
+abbrev pub stored : Line → ℕ → Line
+stored l b = record { bytes = set (l .bytes) (l .len) b; len = l .len + 1 }
+
+pub with-byte-fits : (l : Line) (b : ℕ) → l .len < capacity → withByte l b ≡ stored l b
+unfolding withByte
+with-byte-fits l b h = rw (lt-ltb (l .len) capacity h)
+
+pub with-byte-full : (l : Line) (b : ℕ) → capacity ≤ l .len → withByte l b ≡ l
+unfolding withByte
+with-byte-full l b h = rw (le-ltb (l .len) capacity h)
+
+-- a byte is a list of one
+pub with-byte-is : (l : Line) (b : ℕ) → withByte l b ≡ withBytes l (b ∷ [])
+unfolding withBytes
+with-byte-is l b = refl
+
+pub with-bytes-none : (l : Line) → withBytes l [] ≡ l
+unfolding withBytes
+with-bytes-none l = refl
+
+pub with-bytes-more : (l : Line) (b : ℕ) (bs : List ℕ) → withBytes l (b ∷ bs) ≡ withBytes (withByte l b) bs
+unfolding withBytes
+with-bytes-more l b bs = refl
+
+-- twice is once with both
+pub with-bytes-append : (l : Line) (xs ys : List ℕ) → withBytes (withBytes l xs) ys ≡ withBytes l (xs ++ ys)
+unfolding withBytes
+with-bytes-append l xs ys = sym (foldl-append withByte l xs ys)
+
+-- what a line keeps, whatever is put: the length of its array, and contents within its room
+pub record Kept (l m : Line) : Type 0 where
+  pub size : length (m .bytes) ≡ length (l .bytes)
+  pub within : l .len ≤ capacity → m .len ≤ capacity
+
+byte-kept : (l : Line) (b : ℕ) → Kept l (withByte l b)
+byte-kept l b = go (ltb (l .len) capacity) refl
+  where
+    go : (t : Bool) → ltb (l .len) capacity ≡ t → Kept l (withByte l b)
+    go true e =
+        let h = ltb-true (l .len) capacity e in
+        rw (with-byte-fits l b h) (record { size = length-set (l .bytes) (l .len) b; within = λ _. omega arith })
+    go false e = rw (with-byte-full l b (ltb-false (l .len) capacity e)) (record { size = refl; within = λ h. h })
+
+pub bytes-kept : (bs : List ℕ) (l : Line) → Kept l (withBytes l bs)
+bytes-kept [] l = rw (with-bytes-none l) (record { size = refl; within = λ h. h })
+bytes-kept (b ∷ bs) l =
+    let one = byte-kept l b in
+    let rest = bytes-kept bs (withByte l b) in
+    rw (with-bytes-more l b bs) (record { size = rest .size ∙ one .size; within = λ h. rest .within (one .within h) })
+
+-- the line m is the line l with all of bs behind its contents
+pub record Put (l : Line) (bs : List ℕ) (m : Line) : Type 0 where
+  pub whole : contents m ≡ contents l ++ bs
+  pub long : m .len ≡ l .len + length bs
+
+put-byte : (l : Line) (b : ℕ) → length (l .bytes) ≡ capacity → l .len < capacity → Put l (b ∷ []) (withByte l b)
+unfolding contents
+put-byte l b full h =
+    rw (with-byte-fits l b h)
+    (record { whole = rw add-one (take-suc-set (l .bytes) (l .len) b (omega arith)); long = omega arith })
+
+-- what fits is put whole
+pub put-bytes :
+    (bs : List ℕ) (l : Line) →
+    length (l .bytes) ≡ capacity →
+    l .len + length bs ≤ capacity →
+    Put l bs (withBytes l bs)
+put-bytes [] l full h =
+    rw (with-bytes-none l) (record { whole = sym (append-nil (contents l)); long = omega arith })
+put-bytes (b ∷ bs) l full h =
+    let one = put-byte l b full (omega arith) in
+    let rest = put-bytes bs (withByte l b) (byte-kept l b .size ∙ full) (omega arith) in
+    rw (with-bytes-more l b bs)
+    (record {
+      whole = rest .whole ∙ rw (one .whole) (append-assoc (contents l) (b ∷ []) bs);
+      long = omega arith;
+    })
+
+-- a line made from the empty one has just what was put
+pub put-all :
+    (bs : List ℕ) →
+    length bs ≤ capacity →
+    (contents (withBytes emptyLine bs) ≡ bs) × (withBytes emptyLine bs .len ≡ length bs)
+unfolding contents
+put-all bs h = let p = put-bytes bs emptyLine refl (omega arith) in (p .whole, omega arith)

@@ -1,0 +1,123 @@
+// Decimal numbers and lines of output: a number is read and printed by one function each.
+ghost use mathlib.Core.Path.{_≡_};
+ghost use Prim.Native.Nat.{_≤_};
+ghost use lib.ListN.{length, drop};
+ghost use Rattle.text.specs.Decimal.{badNumber, numberRead, digitsOf};
+ghost use Rattle.text.specs.Lines.{emptyLine, withByte, withBytes};
+
+// What reading gives: the refusal's number, 0 for none, and the number read.
+pub struct NumberRead {
+    pub refusal: u32,
+    pub number: u32,
+}
+
+// A line being made: its contents are the first len bytes.
+pub struct Line {
+    pub bytes: [u8; Line::CAPACITY],
+    pub len: usize,
+}
+
+// A number's digits: the bytes from an index to the end. No u32 has more than ten.
+struct Digits {
+    bytes: [u8; 10],
+    from: usize,
+}
+
+fn bad_number() -> NumberRead
+    ensures { λ r. ⌜ r ≡ badNumber ⌝ }
+{
+    NumberRead {
+        refusal: 3,
+        number: 0,
+    }
+}
+
+// At most nine digits, so that every value fits.
+pub fn read_decimal(digits: &[u8]) -> NumberRead
+    ensures { λ r. ⌜ r ≡ numberRead (now (digits .entry)) ⌝ }
+{
+    if digits.len() == 0 {
+        return bad_number();
+    }
+    if 9 < digits.len() {
+        return bad_number();
+    }
+    let mut number: u32 = 0;
+    let mut i = 0;
+    while i < digits.len() {
+        let digit = digits[i];
+        if digit < b'0' {
+            return bad_number();
+        }
+        if b'9' < digit {
+            return bad_number();
+        }
+        number = 10 * number + (digit - b'0') as u32;
+        i += 1;
+    }
+    NumberRead { refusal: 0, number }
+}
+
+// The digits are found from the last, so they are written backwards.
+fn decimal(n: u32) -> Digits
+    ensures { λ r. ⌜ (length (r .bytes) ≡ 10) × (r .from ≤ 9) × (drop (r .from) (r .bytes) ≡ digitsOf n) ⌝ }
+{
+    let mut bytes = [0u8; 10];
+    let mut from: usize = 9;
+    let mut rest = n;
+    while 10 <= rest {
+        bytes[from] = b'0' + (rest % 10) as u8;
+        from -= 1;
+        rest = rest / 10;
+    }
+    bytes[from] = b'0' + rest as u8;
+    Digits { bytes, from }
+}
+
+impl Line {
+    // The bytes that a line has room for.
+    pub const CAPACITY: usize = 128;
+
+    pub fn empty() -> Line
+        ensures { λ r. ⌜ r ≡ emptyLine ⌝ }
+    {
+        Line {
+            bytes: [0u8; Line::CAPACITY],
+            len: 0,
+        }
+    }
+
+    // One byte more; a full line stays as it was.
+    pub fn byte(self, b: u8) -> Line
+        ensures { λ r. ⌜ r ≡ withByte self b ⌝ }
+    {
+        self.text(&[b])
+    }
+
+    // The bytes one after another; what does not fit is not put.
+    pub fn text(self, s: &[u8]) -> Line
+        ensures { λ r. ⌜ r ≡ withBytes self (now (s .entry)) ⌝ }
+    {
+        let mut bytes = self.bytes;
+        let mut len = self.len;
+        let mut i = 0;
+        while i < s.len() {
+            if len < Line::CAPACITY {
+                bytes[len] = s[i];
+                len += 1;
+            }
+            i += 1;
+        }
+        Line { bytes, len }
+    }
+
+    // The number in decimal, with no zeros in front.
+    pub fn number(self, n: u32) -> Line
+        ensures { λ r. ⌜ r ≡ withBytes self (digitsOf n) ⌝ }
+    {
+        let digits = decimal(n);
+        let bytes = digits.bytes;
+        let from = digits.from;
+        self.text(&bytes[from..])
+    }
+}
