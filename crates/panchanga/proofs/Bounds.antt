@@ -8,14 +8,11 @@ use lib.Dec.{eqb, leb}
 use borrow.Author.Tests.{leb-false}
 use Rattle.days.specs.declared.Day.{Day}
 use Rattle.integers.proofs.Reduced.{reduced-small}
-use Rattle.longitudes.specs.Longitudes.{circle}
-use Rattle.panchanga.specs.TrueLongitudes.{difference, corrected, trueLongitude}
+use Rattle.longitudes.specs.Longitudes.{circle, difference}
+use Rattle.longitudes.proofs.Subtraction.{difference-small}
+use Rattle.panchanga.specs.TrueLongitudes.{corrected, trueLongitude}
 use Rattle.panchanga.specs.Elements.{karanaAfter}
 use Rattle.panchanga.specs.OnDays.{trueSunAt, trueMoonAt, tithiAt, nakshatraAt, yogaAt, karanaAt}
-
-difference-small : (a b : ℕ) → difference a b < circle
-unfolding difference
-difference-small a b = reduced-small _ circle (omega arith)
 
 true-small : (scale divisor apogee mean : ℕ) → trueLongitude scale divisor apogee mean < circle
 unfolding trueLongitude corrected

@@ -1,25 +1,16 @@
--- Differences, corrections and equations in naturals, as the code reckons them: a circle is put on before something is subtracted.
+-- Corrections and equations in naturals, as the code reckons them: a circle is put on before an equation is subtracted.
 -- Assumes nothing.
 use mathlib.Core.Path.{_≡_}
 use Prim.Native.Nat.{ℕ, _+_, _*_, _-_, _/_, _%_, _≤_, _<_}
 use native.Mathlib.Omega.{arith}
 use native.Mathlib.Nat.{mul-le-mul, div-le-of-le-mul}
-use lib.IntN.{ℤ, pos, _+ℤ_, _-ℤ_}
+use lib.IntN.{pos, _+ℤ_}
 use borrow.Author.Tests.{le-leb, lt-leb}
-use Rattle.integers.specs.Integers.{reduced}
-use Rattle.integers.proofs.Less.{less-pos, less-minus}
+use Rattle.integers.proofs.Less.{less-pos}
 use Rattle.integers.proofs.Reduced.{less-reduced}
-use Rattle.longitudes.specs.Longitudes.{circle}
-use Rattle.panchanga.specs.TrueLongitudes.{difference, signed, corrected}
-
-minus : (a b : ℕ) → b ≤ circle → reduced (pos a -ℤ pos b) circle ≡ (a + circle - b) % circle
-minus a b h =
-    less-reduced (pos a -ℤ pos b) (a + 0) (0 + b) (a + circle - b) circle 1 (omega arith)
-    (less-minus (pos a) (pos b) a 0 b 0 (less-pos a) (less-pos b)) (omega arith)
-
-pub difference-is : (a b : ℕ) → b ≤ circle → difference a b ≡ (a + circle - b) % circle
-unfolding difference
-difference-is a b h = minus a b h
+use Rattle.longitudes.specs.Longitudes.{circle, difference}
+use Rattle.longitudes.proofs.Subtraction.{difference-law}
+use Rattle.panchanga.specs.TrueLongitudes.{signed, corrected}
 
 pub added : (mean x size : ℕ) → x ≤ 648000 → corrected mean x size ≡ (mean + size) % circle
 unfolding corrected signed
@@ -28,8 +19,8 @@ added mean x size h =
     (less-reduced (pos mean +ℤ pos size) (mean + size) 0 (mean + size) circle 0 (omega arith) (less-pos (mean + size)) (omega arith))
 
 pub subtracted : (mean x size : ℕ) → 648000 < x → size ≤ circle → corrected mean x size ≡ (mean + circle - size) % circle
-unfolding corrected signed
-subtracted mean x size h k = rw (lt-leb x 648000 h) (minus mean size k)
+unfolding corrected signed difference
+subtracted mean x size h k = rw (lt-leb x 648000 h) (difference-law mean size k)
 
 -- what the code reckons of an equation fits
 pub record Sized (scale divisor Q : ℕ) : Type 0 where

@@ -3,8 +3,7 @@
 use mathlib.Core.Bool.{cond}
 use Prim.Native.Nat.{ℕ, _+_, _-_, _/_, _%_}
 use lib.Dec.{leb, eqb}
-use Rattle.longitudes.specs.Longitudes.{circle}
-use Rattle.panchanga.specs.TrueLongitudes.{difference}
+use Rattle.longitudes.specs.Longitudes.{circle, difference}
 
 -- the tithis elapsed
 abbrev pub tithi : ℕ → ℕ → ℕ

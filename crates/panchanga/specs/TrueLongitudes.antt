@@ -3,13 +3,9 @@
 use mathlib.Core.Bool.{cond}
 use Prim.Native.Nat.{ℕ, _*_, _-_, _/_}
 use lib.Dec.{leb}
-use lib.IntN.{ℤ, pos, negℤ, _+ℤ_, _-ℤ_}
+use lib.IntN.{ℤ, pos, negℤ, _+ℤ_}
 use Rattle.integers.specs.Integers.{reduced}
-use Rattle.longitudes.specs.Longitudes.{circle}
-
--- a less b, reduced by whole circles
-unfoldable pub difference : ℕ → ℕ → ℕ
-difference a b = reduced (pos a -ℤ pos b) circle
+use Rattle.longitudes.specs.Longitudes.{circle, difference}
 
 -- an anomaly reduced to s, from 0 to 324000: the bhuja
 unfoldable pub bhuja : ℕ → ℕ

@@ -10,7 +10,7 @@ ghost use Prim.Native.Nat.{_<_, _≤_};
 ghost use Rattle.days.specs.Days.{inRange};
 ghost use Rattle.longitudes.specs.Longitudes.{longitudeAt};
 ghost use Rattle.longitudes.specs.Answers.{bodyNumber, onDay};
-ghost use Rattle.panchanga.specs.TrueLongitudes.{difference, bhuja, equation, corrected, trueLongitude};
+ghost use Rattle.panchanga.specs.TrueLongitudes.{bhuja, equation, corrected, trueLongitude};
 ghost use Rattle.panchanga.specs.Elements.{tithi, nakshatra, yoga, karana, karanaAfter};
 ghost use Rattle.panchanga.specs.OnDays.{trueSunAt, trueMoonAt, trueSunOf, trueMoonOf, tithiOf, nakshatraOf, yogaOf, karanaOf, panchangaOf};
 ghost use Rattle.panchanga.specs.Single.{elementAt};
@@ -38,14 +38,6 @@ const NAKSHATRA: u32 = CIRCLE / 27;
 const HALF_TITHI: u32 = CIRCLE / 60;
 
 const SUN_APOGEE: u32 = 280800;
-
-// a − b.
-fn subtract(a: u32, b: u32) -> u32
-    requires { ⌜ (a < 1296000) × (b < 1296000) ⌝ }
-    ensures { λ r. ⌜ (r ≡ difference a b) × (r < 1296000) ⌝ }
-{
-    (a + CIRCLE - b) % CIRCLE
-}
 
 // An anomaly reduced to the first quarter: paper 01's s.
 fn first_quarter(anomaly: u32) -> u32
@@ -89,7 +81,7 @@ fn true_longitude(scale: u64, divisor: u64, apogee: u32, mean: u32) -> u32
     requires { ⌜ (scale ≤ 72000) × ((522547200000 ≤ divisor) × ((apogee < 1296000) × (mean < 1296000))) ⌝ }
     ensures { λ r. ⌜ (r ≡ trueLongitude scale divisor apogee mean) × (r < 1296000) ⌝ }
 {
-    let anomaly = subtract(apogee, mean);
+    let anomaly = longitudes::difference(apogee, mean);
     let size = equation_of(scale, divisor, anomaly);
     correct(mean, anomaly, size)
 }
@@ -120,10 +112,9 @@ fn moon_on(day: Day) -> u32
 }
 
 fn tithi_of(sun: u32, moon: u32) -> u32
-    requires { ⌜ (sun < 1296000) × (moon < 1296000) ⌝ }
     ensures { λ r. ⌜ r ≡ tithi sun moon ⌝ }
 {
-    subtract(moon, sun) / TITHI
+    longitudes::difference(moon, sun) / TITHI
 }
 
 fn nakshatra_of(moon: u32) -> u32
@@ -152,10 +143,9 @@ fn karana_after(halves: u32) -> u32
 }
 
 fn karana_of(sun: u32, moon: u32) -> u32
-    requires { ⌜ (sun < 1296000) × (moon < 1296000) ⌝ }
     ensures { λ r. ⌜ r ≡ karana sun moon ⌝ }
 {
-    karana_after(subtract(moon, sun) / HALF_TITHI)
+    karana_after(longitudes::difference(moon, sun) / HALF_TITHI)
 }
 
 pub fn of_day(day: Day) -> Panchanga

@@ -6,14 +6,14 @@ use Rattle.panchanga.specs.Elements.{karanaAfter}
 use Rattle.panchanga.proofs.karana_of.Statement.{statement}
 use Rattle.panchanga.proofs.karana_of.Tie as tie
 
-subtract-requires : tie.Need-subtract-requires
-subtract-requires c κs = search needs
+difference-requires : tie.Need-difference-requires
+difference-requires c κs = search needs
 
 karana-after-requires : tie.Need-karana-after-requires
 karana-after-requires c κs = search needs
 
 returns : tie.Need-returns
-returns c = c .karana-after .ensures ∙ ap (λ (n : ℕ). karanaAfter (n / 21600)) (c .before .subtract .ensures .0)
+returns c = c .karana-after .ensures ∙ ap (λ (n : ℕ). karanaAfter (n / 21600)) (c .before .difference .ensures)
 
 pub karana-of-spec : {M : Type 1} → statement M
-karana-of-spec = tie.close (tie.spec subtract-requires karana-after-requires returns)
+karana-of-spec = tie.close (tie.spec difference-requires karana-after-requires returns)
