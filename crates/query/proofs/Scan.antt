@@ -22,6 +22,10 @@ abbrev told : ℕ → Bool → ℕ → Examined
 told refusal matches next = record { refusal = refusal; matches = matches; next = next }
 
 module _ (q : Query) (n : ℕ) where
+  pub examined-at : n ≤ lastDay → examinedOf q n ≡ told 0 (matches q n) (nextDay q n)
+  unfolding examinedOf
+  examined-at h = rw (le-leb n lastDay h)
+
   pub untold : lastDay < n → told 2 false 0 ≡ examinedOf q n
   unfolding examinedOf
   untold h = rw (lt-leb n lastDay h)

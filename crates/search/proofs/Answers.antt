@@ -1,0 +1,145 @@
+-- What a search answers, case by case: refused, too many, all written; and a span cut off behind its last matching day.
+-- Assumes nothing.
+use Prim.Native.Nat.{ℕ, zero, suc, _+_, _*_, _-_, _≤_, _<_}
+use mathlib.Core.Path.{_≡_, refl, ap, sym, _∙_}
+use mathlib.Core.Bool.{Bool, true, false, cond, _&&_, false≢true}
+use mathlib.Core.List.{List, _++_}
+use native.Mathlib.Omega.{arith}
+use lib.Dec.{leb}
+use lib.ListN.{length, drop}
+use borrow.Author.Tests.{leb-true, le-leb, lt-leb, eq-eqb, ne-eqb}
+use Rattle.days.specs.Days.{lastDay}
+use Rattle.query.specs.declared.Query.{Query}
+use Rattle.query.specs.Conditions.{arcAt, askedInRange, arcInRange, arcsInRange, conditionsInRange, elementsMet}
+use Rattle.query.specs.Query.{sunInArc, matches, nextDay, refusalOf}
+use Rattle.search.specs.declared.Found.{Found}
+use Rattle.search.specs.declared.Tally.{Tally}
+use Rattle.search.specs.Days.{filtered, daysFrom, spanLength, matchingDays, visitedDays, visitLimit, Tallied}
+use Rattle.search.specs.Search.{entries, capacity, resultOf, listAfter, Measured, Searched}
+use Rattle.search.proofs.Arc.{sunArc}
+use Rattle.search.proofs.Filter.{filtered-end, filtered-short}
+use Rattle.search.proofs.Limit.{visits-limited}
+
+and-right : (a b : Bool) → (a && b) ≡ true → b ≡ true
+and-right true b e = e
+and-right false b e = absurd (false≢true e)
+
+and-left : (a b : Bool) → (a && b) ≡ true → a ≡ true
+and-left true b e = refl
+and-left false b e = e
+
+-- a query that is not refused: its days and the Sun's arc are in range
+pub record Accepted (q : Query) : Type 0 where
+  pub first : q .first ≤ q .last
+  pub last : q .last ≤ lastDay
+  pub sun : arcInRange (sunArc q) ≡ true
+  pub conditions : conditionsInRange q ≡ true
+
+sun-of : (q : Query) → conditionsInRange q ≡ true → arcInRange (sunArc q) ≡ true
+unfolding conditionsInRange arcsInRange
+sun-of q e =
+    and-left (arcInRange (sunArc q)) _
+    (and-right (askedInRange (q .yoga) 26) _
+    (and-right (askedInRange (q .nakshatra) 26) _ (and-right (askedInRange (q .tithi) 29) _ (and-right (askedInRange (q .weekday) 6) _ e))))
+
+pub accepted-by : (q : Query) → refusalOf q ≡ 0 → Accepted q
+unfolding refusalOf
+accepted-by q e = go (leb (q .first) lastDay) (leb (q .last) lastDay) (leb (q .first) (q .last)) (conditionsInRange q) refl refl refl e
+  where
+    go :
+        (a b o g : Bool) →
+        leb (q .last) lastDay ≡ b →
+        leb (q .first) (q .last) ≡ o →
+        conditionsInRange q ≡ g →
+        _≡_ {A = ℕ} (cond (a && b) (cond o (cond g 0 6) 5) 2) 0 →
+        Accepted q
+    go true true true true h k c e = record { first = leb-true _ _ k; last = leb-true _ _ h; sun = sun-of q c; conditions = c }
+    go true true true false h k c e = absurd (omega arith)
+    go true true false g h k c e = absurd (omega arith)
+    go true false o g h k c e = absurd (omega arith)
+    go false b o g h k c e = absurd (omega arith)
+
+pub accepts : (q : Query) → q .first ≤ q .last → q .last ≤ lastDay → conditionsInRange q ≡ true → refusalOf q ≡ 0
+unfolding refusalOf
+accepts q h k c = rw (le-leb (q .first) lastDay (omega arith), le-leb _ _ k, le-leb _ _ h, c)
+
+module _ (q : Query) where
+  pub measured-refused : (k : ℕ) → k ≡ refusalOf q → (k ≡ 0 → ⊥) → Measured q (record { refusal = k; length = 0; examined = 0 })
+  measured-refused k e h =
+      let f = ne-eqb (refusalOf q) 0 (λ z. h (e ∙ z)) in
+      record { result = e; count = rw f; visits = rw f; limit = λ g. omega arith }
+
+  pub measured : (t : Tally) → refusalOf q ≡ 0 → Tallied q t → Measured q (record { refusal = 0; length = t .length; examined = t .examined })
+  measured t e c =
+      let f = eq-eqb (refusalOf q) 0 e in
+      record {
+        result = sym e;
+        count = rw f (c .count);
+        visits = rw f (c .visits);
+        limit = λ g. omega (arith, visits-limited q (accepted-by q e .sun), c .visits);
+      }
+
+  module _ (l : List ℕ) where
+    pub refused : (k : ℕ) → k ≡ refusalOf q → (k ≡ 0 → ⊥) → Searched q l (record { refusal = k; length = 0; examined = 0 }) l
+    unfolding resultOf listAfter
+    refused k e h =
+        let f = ne-eqb (refusalOf q) 0 (λ z. h (e ∙ z)) in
+        record { result = rw f e; count = rw f; visits = rw f; limit = λ g. omega arith; list = rw (f, f) }
+
+    module _ (n k : ℕ) (e : refusalOf q ≡ 0) (c : n ≡ length (matchingDays q)) (v : k ≡ length (visitedDays q)) where
+      limited : arcAt (q .arcs) 0 .given ≡ true → k ≤ visitLimit q
+      limited g = omega (arith, visits-limited q (accepted-by q e .sun))
+
+      pub too-many : capacity l < n → Searched q l (record { refusal = 7; length = n; examined = k }) l
+      unfolding resultOf listAfter
+      too-many h =
+          let f = eq-eqb (refusalOf q) 0 e in
+          let t = lt-leb (length (matchingDays q)) (capacity l) (omega arith) in
+          record { result = rw (f, t); count = rw f c; visits = rw f v; limit = limited; list = rw (f, t) }
+
+      pub all-written :
+          (m : List ℕ) →
+          n ≤ capacity l →
+          m ≡ entries (matchingDays q) ++ drop (4 * length (matchingDays q)) l →
+          Searched q l (record { refusal = 0; length = n; examined = k }) m
+      unfolding resultOf listAfter
+      all-written m h w =
+          let f = eq-eqb (refusalOf q) 0 e in
+          let t = le-leb (length (matchingDays q)) (capacity l) (omega arith) in
+          record { result = rw (f, t); count = rw f c; visits = rw f v; limit = limited; list = rw (f, t) w }
+
+-- the query with its span cut off behind a day
+abbrev pub until : Query → ℕ → Query
+until q d =
+    record {
+      first = q .first;
+      last = d;
+      weekday = q .weekday;
+      tithi = q .tithi;
+      nakshatra = q .nakshatra;
+      yoga = q .yoga;
+      arcs = q .arcs;
+    }
+
+module _ (q : Query) (t : Tally) (e : refusalOf q ≡ 0) (c : Tallied q t) where
+  pub until-accepted : refusalOf (until q (t .latest)) ≡ 0
+  until-accepted =
+      let a = accepted-by q e in
+      accepts (until q (t .latest)) (c .from-first) (omega (arith, c .to-last, a .last)) (same (a .conditions))
+    where
+      same : conditionsInRange q ≡ true → conditionsInRange (until q (t .latest)) ≡ true
+      same h = unfold conditionsInRange in h
+
+  pub until-matching : matchingDays (until q (t .latest)) ≡ matchingDays q
+  unfolding matchingDays
+  until-matching =
+      same
+      ∙ sym (filtered-end (matches q) (q .first) (t .latest + 1 - q .first) (spanLength q) (omega (arith, c .to-last))
+      (λ i a b. c .none-later (q .first + i) (omega (arith, c .from-first)) (omega arith)))
+    where
+      same : filtered (matches (until q (t .latest))) (daysFrom (q .first) (t .latest + 1 - q .first)) ≡ filtered (matches q) (daysFrom (q .first) (t .latest + 1 - q .first))
+      same = unfold matches elementsMet in refl
+
+pub matching-fits : (q : Query) → length (matchingDays q) ≤ spanLength q
+unfolding matchingDays
+matching-fits q = filtered-short (matches q) (q .first) (spanLength q)

@@ -1,0 +1,67 @@
+-- The entries of a list of days: four bytes each, and writing one more entry behind those written; by the lengths of the parts.
+-- Assumes nothing.
+use Prim.Native.Nat.{ℕ, zero, suc, _+_, _*_, _≤_}
+use mathlib.Core.Path.{_≡_, refl, ap, ap₂, sym, _∙_}
+use mathlib.Core.List.{List, [], _∷_, _++_, append-assoc, append-nil}
+use native.Mathlib.Omega.{arith}
+use lib.ListN.{length, take, drop, set, length-append}
+use lib.Seq.{take-at, drop-at, drop-drop}
+use Rattle.search.specs.Search.{entry, entries}
+
+pub entry-length : (d : ℕ) → length (entry d) ≡ 4
+unfolding entry
+entry-length d = refl
+
+pub entries-length : (ds : List ℕ) → length (entries ds) ≡ 4 * length ds
+unfolding entries
+entries-length [] = refl
+entries-length (d ∷ ds) = length-append (entry d) (entries ds) ∙ omega (arith, entry-length d, entries-length ds)
+
+pub entries-snoc : (ds : List ℕ) (d : ℕ) → entries (ds ++ (d ∷ [])) ≡ entries ds ++ entry d
+unfolding entries
+entries-snoc [] d = append-nil (entry d)
+entries-snoc (x ∷ ds) d = ap (λ (l : List ℕ). entry x ++ l) (entries-snoc ds d) ∙ sym (append-assoc (entry x) (entries ds) (entry d))
+
+-- the next entry, put behind those that are there
+pub entries-next :
+    (done : List ℕ) (d : ℕ) (m l : List ℕ) (i at : ℕ) →
+    length done ≡ i →
+    at ≡ 4 * i →
+    m ≡ entries done ++ drop (4 * i) l →
+    take at m ++ (entry d ++ drop (at + 4) m) ≡ entries (done ++ (d ∷ [])) ++ drop (4 * (i + 1)) l
+entries-next done d m l i at s p e =
+    let n : length (entries done) ≡ at = omega (arith, entries-length done) in
+    let front : take at m ≡ entries done = ap (take at) e ∙ take-at (entries done) (drop (4 * i) l) at n in
+    let four : 4 * i + 4 ≡ 4 * (i + 1) = omega arith in
+    let back : drop (at + 4) m ≡ drop (4 * (i + 1)) l =
+    sym (drop-drop 4 at m)
+    ∙ ap (λ (t : List ℕ). drop 4 t) (ap (drop at) e ∙ drop-at (entries done) (drop (4 * i) l) at n)
+    ∙ drop-drop 4 (4 * i) l
+    ∙ ap (λ (k : ℕ). drop k l) four in
+    ap₂ (λ (a b : List ℕ). a ++ (entry d ++ b)) front back
+    ∙ sym (append-assoc (entries done) (entry d) (drop (4 * (i + 1)) l))
+    ∙ ap (λ (t : List ℕ). t ++ drop (4 * (i + 1)) l) (sym (entries-snoc done d))
+
+-- four bytes, put one after another
+pub put-four :
+    (i : ℕ) (l : List ℕ) (a b c d : ℕ) →
+    i + 4 ≤ length l →
+    set (set (set (set l i a) (i + 1) b) (i + 2) c) (i + 3) d ≡ take i l ++ (a ∷ b ∷ c ∷ d ∷ drop (i + 4) l)
+put-four zero [] a b c d h = absurd (omega arith)
+put-four zero (x ∷ []) a b c d h = absurd (omega arith)
+put-four zero (x ∷ y ∷ []) a b c d h = absurd (omega arith)
+put-four zero (x ∷ y ∷ z ∷ []) a b c d h = absurd (omega arith)
+put-four zero (x ∷ y ∷ z ∷ w ∷ l) a b c d h = refl
+put-four (suc i) [] a b c d h = absurd (omega arith)
+put-four (suc i) (x ∷ l) a b c d h =
+    let one : suc i + 1 ≡ suc (i + 1) = omega arith in
+    let two : suc i + 2 ≡ suc (i + 2) = omega arith in
+    let three : suc i + 3 ≡ suc (i + 3) = omega arith in
+    let four : suc i + 4 ≡ suc (i + 4) = omega arith in
+    rw (one, two, three, four) (ap (λ (t : List ℕ). x ∷ t) (put-four i l a b c d (omega arith)))
+
+-- without days nothing is written
+pub no-entries : (ds l : List ℕ) → length ds ≡ 0 → l ≡ entries ds ++ drop (4 * length ds) l
+unfolding entries
+no-entries [] l e = refl
+no-entries (d ∷ ds) l e = absurd (omega arith)

@@ -1,0 +1,9 @@
+pub mod Filter
+pub mod Circle
+pub mod Arc
+pub mod Skip
+pub mod Limit
+pub mod Passes
+pub mod Entries
+pub mod Answers
+pub mod Laws

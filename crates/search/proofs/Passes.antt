@@ -1,0 +1,140 @@
+-- The passes over the visited days: what holds before the visit of day d, and how a visit carries it on.
+-- Assumes nothing.
+use Prim.Native.Nat.{ℕ, zero, suc, _+_, _*_, _-_, _≤_, _<_}
+use mathlib.Core.Path.{_≡_, refl, ap, ap₂, sym, _∙_}
+use mathlib.Core.Bool.{Bool, true, false}
+use mathlib.Core.List.{List, [], _∷_, _++_, append-assoc, append-nil}
+use native.Mathlib.Omega.{arith}
+use native.Mathlib.Decide.{decLe}
+use lib.ListN.{length, take, drop, length-append, length-drop}
+use Rattle.query.specs.declared.Query.{Query}
+use Rattle.query.specs.Conditions.{arcInRange}
+use Rattle.query.specs.Query.{matches, nextDay}
+use Rattle.search.specs.Days.{filtered, visitedDays, matchingDays, Tallied}
+use Rattle.search.specs.declared.Tally.{Tally}
+use Rattle.search.specs.Search.{entry, entries}
+use Rattle.search.proofs.Arc.{sunArc, next-later}
+use Rattle.search.proofs.Filter.{filtered-in, filtered-out, filtered-nil}
+use Rattle.query.proofs.Scan.{outside-unmatched}
+use Rattle.search.proofs.Skip.{rest, rest-end, rest-more, skipped, matching-visited}
+use Rattle.search.proofs.Entries.{entries-length, entries-next}
+
+-- the matching days from day d on
+abbrev ahead : Query → ℕ → List ℕ
+ahead q d = filtered (matches q) (rest q d)
+
+-- n days matched, k were visited
+pub record Counting (q : Query) (d n k : ℕ) : Type 0 where
+  pub counted : n + length (ahead q d) ≡ length (filtered (matches q) (visitedDays q))
+  pub seen : k + length (rest q d) ≡ length (visitedDays q)
+  pub fewer : n ≤ k
+  pub gone : k + q .first ≤ d
+
+pub counting-start : (q : Query) → Counting q (q .first) 0 0
+unfolding visitedDays
+counting-start q = omega arith
+
+-- after `latest` no day before d matches
+pub record Latest (q : Query) (d latest : ℕ) : Type 0 where
+  pub from-first : q .first ≤ latest
+  pub to-last : latest ≤ q .last
+  pub quiet : (m : ℕ) → latest < m → m < d → matches q m ≡ false
+
+pub latest-start : (q : Query) → q .first ≤ q .last → Latest q (q .first) (q .first)
+latest-start q h = record { from-first = omega arith; to-last = h; quiet = λ m a b. absurd (omega arith) }
+
+-- the list l, now m, has the entries of the i days that matched, up to the byte `at`
+pub record Writing (q : Query) (l m : List ℕ) (d i at : ℕ) : Type 0 where
+  pub done : List ℕ
+  pub whole : done ++ ahead q d ≡ matchingDays q
+  pub size : length done ≡ i
+  pub place : at ≡ 4 * i
+  pub left : m ≡ entries done ++ drop (4 * i) l
+
+module _ (q : Query) (r : arcInRange (sunArc q) ≡ true) where
+  ahead-in : (d : ℕ) → d ≤ q .last → matches q d ≡ true → ahead q d ≡ d ∷ ahead q (nextDay q d)
+  ahead-in d h f = ap (filtered (matches q)) (rest-more q r d h) ∙ filtered-in (matches q) d (rest q (nextDay q d)) f
+
+  ahead-out : (d : ℕ) → d ≤ q .last → matches q d ≡ false → ahead q d ≡ ahead q (nextDay q d)
+  ahead-out d h f = ap (filtered (matches q)) (rest-more q r d h) ∙ filtered-out (matches q) d (rest q (nextDay q d)) f
+
+  ahead-end : (d : ℕ) → q .last < d → ahead q d ≡ []
+  ahead-end d h = ap (filtered (matches q)) (rest-end q r d h) ∙ filtered-nil (matches q)
+
+  module _ (d n k : ℕ) (h : d ≤ q .last) (c : Counting q d n k) where
+    pub counting-in : matches q d ≡ true → Counting q (nextDay q d) (n + 1) (k + 1)
+    counting-in f = omega (arith, next-later q r d, ap length (ahead-in d h f), ap length (rest-more q r d h))
+
+    pub counting-out : matches q d ≡ false → Counting q (nextDay q d) n (k + 1)
+    counting-out f = omega (arith, next-later q r d, ap length (ahead-out d h f), ap length (rest-more q r d h))
+
+  pub counting-end : (d n k : ℕ) → q .last < d → Counting q d n k → (n ≡ length (matchingDays q)) × (k ≡ length (visitedDays q))
+  counting-end d n k h c = omega (arith, ap length (ahead-end d h), ap length (rest-end q r d h), ap length (matching-visited q r))
+
+  between : (d m : ℕ) → d < m → m < nextDay q d → matches q m ≡ false
+  between d m h l =
+      ap (matches q) (omega arith)
+      ∙ outside-unmatched q (d + (m - d)) (skipped q r d (m - d) (omega arith) (omega arith))
+
+  pub latest-in : (d latest : ℕ) → d ≤ q .last → q .first ≤ d → Latest q (nextDay q d) d
+  latest-in d latest h f = record { from-first = f; to-last = h; quiet = λ m a b. between d m a b }
+
+  pub latest-out : (d latest : ℕ) → matches q d ≡ false → Latest q d latest → Latest q (nextDay q d) latest
+  latest-out d latest f c =
+      record { from-first = c .from-first; to-last = c .to-last; quiet = λ m a b. before m a b (decLe (suc m) d) (decLe (suc d) m) }
+    where
+      before : (m : ℕ) → latest < m → m < nextDay q d → Dec (suc m ≤ d) → Dec (suc d ≤ m) → matches q m ≡ false
+      before m a b (yes l) u = c .quiet m a (omega arith)
+      before m a b (no l) (yes u) = between d m (omega arith) b
+      before m a b (no l) (no u) = ap (matches q) (omega arith) ∙ f
+
+  pub tallied : (d : ℕ) (tally : Tally) → q .last < d → Counting q d (tally .length) (tally .examined) → Latest q d (tally .latest) → Tallied q tally
+  tallied d tally h c l =
+      let e = counting-end d (tally .length) (tally .examined) h c in
+      record {
+        count = e .0;
+        visits = e .1;
+        from-first = l .from-first;
+        to-last = l .to-last;
+        none-later = λ m a b. l .quiet m a (omega arith);
+      }
+
+  pub writing-start : (l : List ℕ) → Writing q l l (q .first) 0 0
+  unfolding visitedDays entries
+  writing-start l = record { done = []; whole = matching-visited q r; size = refl; place = refl; left = refl }
+
+  module _ (l m : List ℕ) (d i at : ℕ) (room : 4 * length (matchingDays q) ≤ length l) (w : Writing q l m d i at) where
+    size-up : i + length (ahead q d) ≡ length (matchingDays q)
+    size-up = omega (arith, w .size, simp length-append at (ap length (w .whole)))
+
+    pub writing-length : length m ≡ length l
+    writing-length = ap length (w .left) ∙ simp (length-append, length-drop) (omega (arith, entries-length (w .done), w .size, size-up))
+
+    module _ (h : d ≤ q .last) where
+      pub writing-room : matches q d ≡ true → at + 4 ≤ length m
+      writing-room f = omega (arith, writing-length, size-up, ap length (ahead-in d h f), w .place)
+
+      pub writing-in : (x : List ℕ) → matches q d ≡ true → x ≡ take at m ++ (entry d ++ drop (at + 4) m) → Writing q l x (nextDay q d) (i + 1) (at + 4)
+      writing-in x f e =
+          record {
+            done = w .done ++ (d ∷ []);
+            whole = append-assoc (w .done) (d ∷ []) (ahead q (nextDay q d)) ∙ ap (λ (t : List ℕ). w .done ++ t) (sym (ahead-in d h f)) ∙ w .whole;
+            size = simp length-append (omega (arith, w .size));
+            place = omega (arith, w .place);
+            left = e ∙ entries-next (w .done) d m l i at (w .size) (w .place) (w .left);
+          }
+
+      pub writing-out : matches q d ≡ false → Writing q l m (nextDay q d) i at
+      writing-out f =
+          record {
+            done = w .done;
+            whole = ap (λ (t : List ℕ). w .done ++ t) (sym (ahead-out d h f)) ∙ w .whole;
+            size = w .size;
+            place = w .place;
+            left = w .left;
+          }
+
+    pub writing-end : q .last < d → m ≡ entries (matchingDays q) ++ drop (4 * length (matchingDays q)) l
+    writing-end h =
+        let e : w .done ≡ matchingDays q = sym (append-nil (w .done)) ∙ ap (λ (t : List ℕ). w .done ++ t) (sym (ahead-end d h)) ∙ w .whole in
+        w .left ∙ ap₂ (λ (a b : List ℕ). a ++ b) (ap entries e) (ap (λ (n : ℕ). drop (4 * n) l) (sym (w .size) ∙ ap length e))

@@ -1,0 +1,99 @@
+-- The scan passes over no day with the Sun in its arc, so filtering the visited days filters the span; by induction on the days left.
+-- Assumes nothing.
+use Prim.Native.Nat.{ℕ, zero, suc, _+_, _*_, _-_, _/_, _≤_, _<_}
+use mathlib.Core.Path.{_≡_, refl, ap, sym, _∙_}
+use mathlib.Core.Bool.{Bool, true, false}
+use mathlib.Core.List.{List, [], _∷_}
+use native.Mathlib.Omega.{arith}
+use native.Mathlib.Decide.{decLe}
+use lib.Dec.{leb}
+use borrow.Author.Tests.{leb-true, leb-false, le-leb, lt-leb}
+use Rattle.query.specs.declared.Query.{Query}
+use Rattle.query.specs.Conditions.{arcInRange}
+use Rattle.query.proofs.Scan.{outside-unmatched}
+use Rattle.query.specs.Query.{sunInArc, matches, nextDay}
+use Rattle.search.specs.Days.{filtered, daysFrom, spanLength, span, matchingDays, visitedFrom, visitedDays}
+use Rattle.search.proofs.Circle.{past, past-grows}
+use Rattle.search.proofs.Arc.{sunArc, fair, out-past, past-out, next-in, next-out, next-later}
+use Rattle.search.proofs.Filter.{filtered-at, filtered-cons, filtered-front}
+
+-- the visits from day d on
+abbrev pub rest : Query → ℕ → List ℕ
+rest q d = visitedFrom q (q .last + 1 - d) d
+
+module _ (q : Query) (r : arcInRange (sunArc q) ≡ true) where
+  -- a day between a visited day and the next is outside the arc
+  pub skipped : (d j : ℕ) → 0 < j → d + j < nextDay q d → sunInArc q (d + j) ≡ false
+  skipped d j h l = go (sunInArc q d) refl
+    where
+      go : (b : Bool) → sunInArc q d ≡ b → sunInArc q (d + j) ≡ false
+      go true e = absurd (omega (arith, next-in q d e))
+      go false e =
+          let f = out-past q d e in
+          let a = fair (sunArc q) r (f .0) in
+          let g : past (sunArc q .start) d ≤ past (sunArc q .start) (d + j) = past-grows (sunArc q .start) d j (omega arith) (omega (arith, next-out q r d e)) in
+          past-out q (d + j) (f .0) (omega arith)
+
+  -- the scan, a day at a time
+  pub visit-end : (n d : ℕ) → q .last < d → visitedFrom q n d ≡ []
+  unfolding visitedFrom
+  visit-end zero d h = refl
+  visit-end (suc n) d h = rw (lt-leb d (q .last) h, visitedFrom)
+
+  pub visit-more : (n d : ℕ) → d ≤ q .last → visitedFrom q (suc n) d ≡ d ∷ visitedFrom q n (nextDay q d)
+  unfolding visitedFrom
+  visit-more n d h = rw (le-leb d (q .last) h, visitedFrom)
+
+  -- a larger bound than the days left makes no difference
+  bound : (n m d : ℕ) → q .last + 1 - d ≤ n → q .last + 1 - d ≤ m → visitedFrom q n d ≡ visitedFrom q m d
+  bound zero m d h k = visit-end zero d (omega arith) ∙ sym (visit-end m d (omega arith))
+  bound (suc n) zero d h k = visit-end (suc n) d (omega arith) ∙ sym (visit-end zero d (omega arith))
+  bound (suc n) (suc m) d h k =
+      go (decLe d (q .last)) (bound n m (nextDay q d) (omega (arith, next-later q r d)) (omega (arith, next-later q r d)))
+    where
+      go : Dec (d ≤ q .last) → visitedFrom q n (nextDay q d) ≡ visitedFrom q m (nextDay q d) → visitedFrom q (suc n) d ≡ visitedFrom q (suc m) d
+      go (yes l) ih = visit-more n d l ∙ ap (λ (l : List ℕ). d ∷ l) ih ∙ sym (visit-more m d l)
+      go (no f) ih = visit-end (suc n) d (omega arith) ∙ sym (visit-end (suc m) d (omega arith))
+
+  pub rest-end : (d : ℕ) → q .last < d → rest q d ≡ []
+  rest-end d h = visit-end (q .last + 1 - d) d h
+
+  pub rest-more : (d : ℕ) → d ≤ q .last → rest q d ≡ d ∷ rest q (nextDay q d)
+  rest-more d h =
+      bound (q .last + 1 - d) (suc (q .last - d)) d (omega arith) (omega arith)
+      ∙ visit-more (q .last - d) d h
+      ∙ ap (λ (l : List ℕ). d ∷ l) (bound (q .last - d) (q .last + 1 - nextDay q d) (nextDay q d) (omega (arith, next-later q r d)) (omega arith))
+
+  module _ (p : ℕ → Bool) (inside : (d : ℕ) → sunInArc q d ≡ false → p d ≡ false) where
+    -- what is left of the span after d, and of the span from the next day on
+    after : (d : ℕ) → filtered p (daysFrom (suc d) (q .last - d)) ≡ filtered p (daysFrom (nextDay q d) (q .last + 1 - nextDay q d))
+    after d =
+        let m : d < nextDay q d = next-later q r d in
+        filtered-front p (nextDay q d - suc d) (suc d) (q .last - d)
+        (λ i l. ap p (omega arith) ∙ inside (d + (i + 1)) (skipped d (i + 1) (omega arith) (omega arith)))
+        ∙ filtered-at p _ _ (nextDay q d) (q .last + 1 - nextDay q d) (omega arith) (omega arith)
+
+    filtered-visits : (n d : ℕ) → q .last + 1 - d ≤ n → filtered p (visitedFrom q n d) ≡ filtered p (daysFrom d (q .last + 1 - d))
+    unfolding visitedFrom daysFrom
+    filtered-visits zero d h = filtered-at p d 0 d (q .last + 1 - d) refl (omega arith)
+    filtered-visits (suc n) d h =
+        go (leb d (q .last)) refl
+        (filtered-visits n (nextDay q d) (omega (arith, next-later q r d)))
+      where
+        go :
+            (b : Bool) →
+            leb d (q .last) ≡ b →
+            filtered p (visitedFrom q n (nextDay q d)) ≡ filtered p (daysFrom (nextDay q d) (q .last + 1 - nextDay q d)) →
+            filtered p (elim b [ true ↦ d ∷ visitedFrom q n (nextDay q d) | false ↦ [] ]) ≡ filtered p (daysFrom d (q .last + 1 - d))
+        go true e ih =
+            filtered-cons p d (visitedFrom q n (nextDay q d)) (daysFrom (suc d) (q .last - d)) (ih ∙ sym (after d))
+            ∙ filtered-at p d (suc (q .last - d)) d (q .last + 1 - d) refl (omega (arith, leb-true d (q .last) e))
+        go false e ih = filtered-at p d 0 d (q .last + 1 - d) refl (omega (arith, leb-false d (q .last) e))
+
+    pub filtered-visited : filtered p (visitedDays q) ≡ filtered p (span q)
+    unfolding visitedDays
+    filtered-visited = filtered-visits (spanLength q) (q .first) (omega arith)
+
+pub matching-visited : (q : Query) → arcInRange (sunArc q) ≡ true → filtered (matches q) (visitedDays q) ≡ matchingDays q
+unfolding matchingDays
+matching-visited q r = filtered-visited q r (matches q) (outside-unmatched q)

@@ -1,0 +1,66 @@
+-- `put_day` meets its contract: four stores are the entry, put in place.
+use borrow.Author.Needs.{needs}
+use lib.ListN.{length-set}
+use native.Mathlib.Omega.{arith}
+use Rattle.search.specs.Search.{entry}
+use Rattle.search.proofs.Entries.{put-four}
+use Rattle.search.proofs.put_day.Statement.{statement}
+use Rattle.search.proofs.put_day.Tie as tie
+
+cast-list : tie.Need-cast-list
+cast-list c = search needs
+
+slice-write-list : tie.Need-slice-write-list
+slice-write-list c = search needs
+
+cast-list-2 : tie.Need-cast-list-2
+cast-list-2 c = search needs
+
+add-list : tie.Need-add-list
+add-list c = search needs
+
+slice-write-list-2 : tie.Need-slice-write-list-2
+slice-write-list-2 c = simp length-set (omega arith)
+
+cast-list-3 : tie.Need-cast-list-3
+cast-list-3 c = search needs
+
+add-list-2 : tie.Need-add-list-2
+add-list-2 c = search needs
+
+slice-write-list-3 : tie.Need-slice-write-list-3
+slice-write-list-3 c = simp length-set (omega arith)
+
+cast-list-4 : tie.Need-cast-list-4
+cast-list-4 c = search needs
+
+add-list-3 : tie.Need-add-list-3
+add-list-3 c = search needs
+
+slice-write-list-4 : tie.Need-slice-write-list-4
+slice-write-list-4 c = simp length-set (omega arith)
+
+same-length : tie.Need-same-length
+same-length c = search needs
+
+returns : tie.Need-returns
+unfolding entry
+returns c = put-four _ _ _ _ _ _ (c .pre)
+
+pub put-day-spec : {M : Type 1} → statement M
+put-day-spec =
+    tie.close
+    (tie.spec
+    cast-list
+    slice-write-list
+    cast-list-2
+    add-list
+    slice-write-list-2
+    cast-list-3
+    add-list-2
+    slice-write-list-3
+    cast-list-4
+    add-list-3
+    slice-write-list-4
+    same-length
+    returns)
