@@ -1,0 +1,239 @@
+// Civil dates: Julian up to 4 October 1582, Gregorian from 15 October 1582.
+ghost use mathlib.Core.Path.{_≡_};
+ghost use Prim.Native.Nat.{_+_, _*_, _≤_, _<_};
+ghost use Rattle.days.specs.Days.{lastDay, noNumber};
+ghost use Rattle.civil.specs.Calendar.{leap, monthDays, lost, dateExists, dateOn};
+ghost use Rattle.civil.specs.Answers.{dayOfDate, dateOfDay};
+ghost use Rattle.civil.specs.Serial.{place, marchYear, yearStart, before, gregorian, InYear, serial as serialOf};
+use days::Day;
+use days::NumberAnswer;
+use days::refusal;
+
+pub struct Date {
+    pub year: u32,
+    pub month: u32,
+    pub day: u32,
+}
+
+// A refusal's number, or 0, beside the date; a refusal has all zeros.
+pub struct DateAnswer {
+    pub refusal: u32,
+    pub date: Date,
+}
+
+const NO_DATE: DateAnswer = DateAnswer {
+    refusal: refusal::OUT_OF_RANGE,
+    date: Date {
+        year: 0,
+        month: 0,
+        day: 0,
+    },
+};
+
+// The days from 1 March to each month, March first: running sums.
+const BEFORE: [u32; 12] = [0, 31, 61, 92, 122, 153, 184, 214, 245, 275, 306, 337];
+
+// The serial numbers of day 0 and of 15 October 1582: days since the March 400 Julian years before that of year 0.
+const EPOCH_SERIAL: u64 = 701298;
+
+const GREGORIAN_SERIAL: u64 = 724143;
+
+// 4 October 1582, the day 217 of the year 1982, in the dates' order: no year has 400 days.
+const LAST_JULIAN_STAMP: u64 = 400 * 1982 + 217;
+
+// The one place where the months' days are summed up; months are counted from March as 0.
+fn days_before(month: usize) -> u32
+    requires { ⌜ month < 12 ⌝ }
+    ensures { λ r. ⌜ (r ≡ before month) × (r ≤ 337) ⌝ }
+{
+    BEFORE[month]
+}
+
+fn place_of(month: u32) -> usize
+    requires { ⌜ month ≤ 12 ⌝ }
+    ensures { λ r. ⌜ r ≡ place month ⌝ }
+{
+    ((month + 9) % 12) as usize
+}
+
+fn is_leap(year: u32) -> bool
+    ensures { λ r. ⌜ r ≡ leap year ⌝ }
+{
+    if year % 4 != 0 {
+        false
+    } else if year <= 1582 {
+        true
+    } else if year % 100 != 0 {
+        true
+    } else {
+        year % 400 == 0
+    }
+}
+
+fn month_days(year: u32, month: u32) -> u32
+    requires { ⌜ (1 ≤ month) × (month ≤ 12) ⌝ }
+    ensures { λ r. ⌜ r ≡ monthDays year month ⌝ }
+{
+    if month == 2 {
+        if is_leap(year) { 29 } else { 28 }
+    } else {
+        let at = place_of(month);
+        let end = days_before(at + 1);
+        end - days_before(at)
+    }
+}
+
+// 5 to 14 October 1582.
+fn is_lost(date: Date) -> bool
+    ensures { λ r. ⌜ r ≡ lost date ⌝ }
+{
+    if date.year != 1582 {
+        return false;
+    }
+    if date.month != 10 {
+        return false;
+    }
+    if date.day <= 4 {
+        return false;
+    }
+    date.day < 15
+}
+
+// There is such a date.
+pub fn exists(date: Date) -> bool
+    ensures { λ r. ⌜ r ≡ dateExists date ⌝ }
+{
+    if date.month < 1 {
+        return false;
+    }
+    if 12 < date.month {
+        return false;
+    }
+    if date.day < 1 {
+        return false;
+    }
+    if month_days(date.year, date.month) < date.day {
+        return false;
+    }
+    !is_lost(date)
+}
+
+fn year_start(gregorian: bool, year: u64) -> u64
+    requires { ⌜ year < 4294967696 ⌝ }
+    ensures { λ r. ⌜ (r ≡ yearStart gregorian year) × (r ≤ 366 * year + 5) ⌝ }
+{
+    if gregorian {
+        365 * year + year / 4 - year / 100 + year / 400 + 5
+    } else {
+        365 * year + year / 4
+    }
+}
+
+// The year that began in the last March; year 0 counts as 400, so the largest is below 2^32 + 400.
+fn march_year(year: u32, month: u32) -> u64
+    ensures { λ r. ⌜ (r ≡ marchYear year month) × (r < 4294967696) ⌝ }
+{
+    if month < 3 {
+        year as u64 + 399
+    } else {
+        year as u64 + 400
+    }
+}
+
+// The day, counted from 1 March as 0, is after 4 October 1582.
+fn is_gregorian(year: u64, day: u64) -> bool
+    requires { ⌜ (year < 4294967696) × (day < 400) ⌝ }
+    ensures { λ r. ⌜ r ≡ gregorian year day ⌝ }
+{
+    LAST_JULIAN_STAMP < 400 * year + day
+}
+
+fn serial(date: Date) -> u64
+    requires { ⌜ (1 ≤ date .day) × ((date .day ≤ 31) × (date .month ≤ 12)) ⌝ }
+    ensures { λ r. ⌜ r ≡ serialOf date ⌝ }
+{
+    let year = march_year(date.year, date.month);
+    let day = (days_before(place_of(date.month)) + date.day - 1) as u64;
+    year_start(is_gregorian(year, day), year) + day
+}
+
+fn refused(number: u32) -> NumberAnswer
+    ensures { λ r. ⌜ r ≡ noNumber number ⌝ }
+{
+    NumberAnswer {
+        refusal: number,
+        number: 0,
+    }
+}
+
+// The day of a date.
+pub fn day_of(date: Date) -> NumberAnswer
+    ensures { λ r. ⌜ r ≡ dayOfDate date ⌝ }
+{
+    if !exists(date) {
+        return refused(refusal::NO_SUCH_DATE);
+    }
+    let serial = serial(date);
+    if EPOCH_SERIAL <= serial {
+        let number = serial - EPOCH_SERIAL;
+        if number <= Day::LAST as u64 {
+            let number = number as u32;
+            return NumberAnswer {
+                refusal: refusal::NONE,
+                number,
+            };
+        }
+    }
+    refused(refusal::OUT_OF_RANGE)
+}
+
+// The year, from March on, that a serial number falls in: by centuries of 36524 or 36525 days, and years of 365 or 366.
+fn year_of(gregorian: bool, serial: u64) -> u64
+    requires { ⌜ (5 ≤ serial) × (serial < 2000000) ⌝ }
+    ensures { λ r. ⌜ InYear gregorian serial r × (r < 6000) ⌝ }
+{
+    if gregorian {
+        let since = serial - 5;
+        let century = (4 * since + 3) / 146097;
+        let within = since - (36524 * century + century / 4);
+        100 * century + (4 * within + 3) / 1461
+    } else {
+        (4 * serial + 3) / 1461
+    }
+}
+
+// Each month has 153 / 5 days, near enough that the quotient is its place.
+fn date_at(day: u32) -> Date
+    requires { ⌜ day ≤ lastDay ⌝ }
+    ensures { λ r. ⌜ r ≡ dateOn day ⌝ }
+{
+    let serial = day as u64 + EPOCH_SERIAL;
+    let gregorian = GREGORIAN_SERIAL <= serial;
+    let year = year_of(gregorian, serial);
+    let within = serial - year_start(gregorian, year);
+    let at = (5 * within + 2) / 153;
+    let day = (within - days_before(at as usize) as u64 + 1) as u32;
+    if at < 10 {
+        let year = (year - 400) as u32;
+        let month = (at + 3) as u32;
+        Date { year, month, day }
+    } else {
+        let year = (year - 399) as u32;
+        let month = (at - 9) as u32;
+        Date { year, month, day }
+    }
+}
+
+// The date of a day.
+pub fn date_of(day: u32) -> DateAnswer
+    ensures { λ r. ⌜ r ≡ dateOfDay day ⌝ }
+{
+    if day <= Day::LAST {
+        DateAnswer {
+            refusal: refusal::NONE,
+            date: date_at(day),
+        }
+    } else {
+        NO_DATE
+    }
+}
