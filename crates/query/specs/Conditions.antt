@@ -5,7 +5,6 @@ use mathlib.Core.List.{List}
 use Prim.Native.Nat.{ℕ}
 use lib.Dec.{leb, ltb, eqb}
 use lib.ListN.{getD}
-use Rattle.days.specs.Days.{weekdayOn, pairAt}
 use Rattle.days.specs.declared.Day.{Day}
 use Rattle.longitudes.specs.Longitudes.{circle, longitudeAt, difference}
 use Rattle.panchanga.specs.OnDays.{tithiAt, nakshatraAt, yogaAt}

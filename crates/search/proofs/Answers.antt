@@ -1,6 +1,6 @@
 -- What a search answers, case by case: refused, too many, all written; and a span cut off behind its last matching day.
 -- Assumes nothing.
-use Prim.Native.Nat.{ℕ, zero, suc, _+_, _*_, _-_, _≤_, _<_}
+use Prim.Native.Nat.{ℕ, _+_, _*_, _-_, _≤_, _<_}
 use mathlib.Core.Path.{_≡_, refl, ap, sym, _∙_}
 use mathlib.Core.Bool.{Bool, true, false, cond, _&&_, false≢true}
 use mathlib.Core.List.{List, _++_}
@@ -11,8 +11,7 @@ use borrow.Author.Tests.{leb-true, le-leb, lt-leb, eq-eqb, ne-eqb}
 use Rattle.days.specs.Days.{lastDay}
 use Rattle.query.specs.declared.Query.{Query}
 use Rattle.query.specs.Conditions.{arcAt, askedInRange, arcInRange, arcsInRange, conditionsInRange, elementsMet}
-use Rattle.query.specs.Query.{sunInArc, matches, nextDay, refusalOf}
-use Rattle.search.specs.declared.Found.{Found}
+use Rattle.query.specs.Query.{matches, refusalOf}
 use Rattle.search.specs.declared.Tally.{Tally}
 use Rattle.search.specs.Days.{filtered, daysFrom, spanLength, matchingDays, visitedDays, visitLimit, Tallied}
 use Rattle.search.specs.Search.{entries, capacity, resultOf, listAfter, Measured, Searched}

@@ -1,16 +1,16 @@
 -- Inside the Sun's arc and outside it: the scan's next day, case by case.
 -- Assumes nothing.
-use Prim.Native.Nat.{ℕ, _+_, _*_, _-_, _/_, _≤_, _<_}
-use mathlib.Core.Path.{_≡_, refl, ap, _∙_}
+use Prim.Native.Nat.{ℕ, _+_, _-_, _/_, _≤_, _<_}
+use mathlib.Core.Path.{_≡_, refl}
 use mathlib.Core.Bool.{Bool, true, false, cond, _&&_, true≢false, false≢true}
 use native.Mathlib.Omega.{arith}
 use lib.Dec.{leb, ltb}
 use borrow.Author.Tests.{ltb-true, ltb-false, leb-true, le-ltb}
-use Rattle.longitudes.specs.Longitudes.{circle, difference}
+use Rattle.longitudes.specs.Longitudes.{circle}
 use Rattle.query.specs.declared.Query.{Query}
 use Rattle.query.specs.declared.Arc.{Arc}
 use Rattle.query.specs.Conditions.{within, arcAt, arcInRange}
-use Rattle.query.specs.Query.{sunOn, sunInArc, matches, nextDay}
+use Rattle.query.specs.Query.{sunInArc, nextDay}
 use Rattle.search.proofs.Circle.{past, past-low, ahead-past}
 
 abbrev pub sunArc : Query → Arc

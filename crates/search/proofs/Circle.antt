@@ -1,7 +1,7 @@
 -- How far the mean Sun is past a point of the circle, and when it comes there again: made linear by counting the circles of the unrolled Sun.
 -- Assumes nothing.
-use Prim.Native.Nat.{ℕ, zero, suc, _+_, _*_, _-_, _/_, _%_, _≤_, _<_}
-use mathlib.Core.Path.{_≡_, refl, ap, sym, _∙_}
+use Prim.Native.Nat.{ℕ, _+_, _*_, _-_, _/_, _%_, _≤_, _<_}
+use mathlib.Core.Path.{_≡_, ap, sym, _∙_}
 use native.Mathlib.Omega.{arith}
 use Rattle.days.specs.Days.{pairAt}
 use Rattle.longitudes.specs.Longitudes.{circle, difference}

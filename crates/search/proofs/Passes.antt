@@ -1,27 +1,43 @@
 -- The passes over the visited days: what holds before the visit of day d, and how a visit carries it on.
 -- Assumes nothing.
-use Prim.Native.Nat.{ℕ, zero, suc, _+_, _*_, _-_, _≤_, _<_}
+use Prim.Native.Nat.{ℕ, suc, _+_, _*_, _-_, _≤_, _<_}
 use mathlib.Core.Path.{_≡_, refl, ap, ap₂, sym, _∙_}
-use mathlib.Core.Bool.{Bool, true, false}
+use mathlib.Core.Bool.{true, false}
 use mathlib.Core.List.{List, [], _∷_, _++_, append-assoc, append-nil}
 use native.Mathlib.Omega.{arith}
 use native.Mathlib.Decide.{decLe}
 use lib.ListN.{length, take, drop, length-append, length-drop}
+use Rattle.days.specs.Days.{lastDay}
 use Rattle.query.specs.declared.Query.{Query}
+use Rattle.query.specs.declared.Examined.{Examined}
 use Rattle.query.specs.Conditions.{arcInRange}
-use Rattle.query.specs.Query.{matches, nextDay}
+use Rattle.query.specs.Query.{matches, nextDay, examinedOf, refusalOf}
 use Rattle.search.specs.Days.{filtered, visitedDays, matchingDays, Tallied}
 use Rattle.search.specs.declared.Tally.{Tally}
 use Rattle.search.specs.Search.{entry, entries}
 use Rattle.search.proofs.Arc.{sunArc, next-later}
 use Rattle.search.proofs.Filter.{filtered-in, filtered-out, filtered-nil}
-use Rattle.query.proofs.Scan.{outside-unmatched}
+use Rattle.query.proofs.Scan.{outside-unmatched, examined-at}
+use Rattle.search.proofs.Answers.{accepted-by}
 use Rattle.search.proofs.Skip.{rest, rest-end, rest-more, skipped, matching-visited}
 use Rattle.search.proofs.Entries.{entries-length, entries-next}
 
 -- the matching days from day d on
 abbrev ahead : Query → ℕ → List ℕ
 ahead q d = filtered (matches q) (rest q d)
+
+-- what examining a day of the span tells: a day not past the last day there is, and the next day, which is later
+pub record Visit (q : Query) (d : ℕ) (seen : Examined) : Type 0 where
+  pub told : seen ≡ record { refusal = 0; matches = matches q d; next = nextDay q d }
+  pub low : d ≤ lastDay
+  pub later : d < seen .next
+
+pub visit : (q : Query) (d : ℕ) (seen : Examined) → refusalOf q ≡ 0 → d ≤ q .last → seen ≡ examinedOf q d → Visit q d seen
+visit q d seen e h s =
+    let a = accepted-by q e in
+    let low : d ≤ lastDay = omega (arith, a .last) in
+    let t : seen ≡ record { refusal = 0; matches = matches q d; next = nextDay q d } = s ∙ examined-at q d low in
+    record { told = t; low = low; later = rw t (next-later q (a .sun) d) }
 
 -- n days matched, k were visited
 pub record Counting (q : Query) (d n k : ℕ) : Type 0 where

@@ -1,8 +1,7 @@
 -- `elements_met` meets its contract: with neither tithi nor yoga asked for the nakshatra decides, else the elements in turn.
 use borrow.Author.Needs.{needs}
 use borrow.Author.Tests.{not-true, not-false}
-use mathlib.Core.Path.{_≡_, sym, ap, _∙_}
-use Prim.Native.Nat.{ℕ}
+use mathlib.Core.Path.{sym, ap, _∙_}
 use Rattle.query.specs.Conditions.{meets}
 use Rattle.query.proofs.Conditions.{elements-on, only-nakshatra, tithi-not-met, nakshatra-not-met, yoga-decides}
 use Rattle.query.proofs.elements_met.Statement.{statement}

@@ -1,7 +1,7 @@
 -- `sun_place` meets its contract: the test is the meaning's, on the longitude of a day in range.
 use borrow.Author.Needs.{needs}
 use borrow.Author.Tests.{lt-ltb, le-ltb, not-true, not-false}
-use mathlib.Core.Path.{_≡_, sym, ap, _∙_}
+use mathlib.Core.Path.{ap, _∙_}
 use mathlib.Core.Bool.{true≢false}
 use Prim.Native.Nat.{ℕ}
 use Rattle.days.specs.declared.NumberAnswer.{NumberAnswer}

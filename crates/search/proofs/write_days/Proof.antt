@@ -1,16 +1,10 @@
 -- `write_days` meets its contract. The loop's invariant: the days counted so far, and their entries at the front of the list. The measure is the days left.
 use borrow.Author.Needs.{needs}
-use mathlib.Core.Path.{_≡_, ap, _∙_}
-use Prim.Native.Nat.{ℕ, _+_, _-_, _≤_}
+use Prim.Native.Nat.{_+_, _-_, _≤_}
 use native.Mathlib.Omega.{arith}
 use lib.ListN.{length}
-use Rattle.days.specs.Days.{lastDay}
-use Rattle.query.specs.declared.Examined.{Examined}
-use Rattle.query.specs.Query.{matches, nextDay}
-use Rattle.query.proofs.Scan.{examined-at}
-use Rattle.search.proofs.Arc.{next-later}
 use Rattle.search.proofs.Answers.{accepted-by}
-use Rattle.search.proofs.Passes.{Counting, Writing, counting-start, counting-in, counting-out, counting-end, writing-start, writing-length, writing-room, writing-in, writing-out, writing-end}
+use Rattle.search.proofs.Passes.{Visit, visit, Counting, Writing, counting-start, counting-in, counting-out, counting-end, writing-start, writing-length, writing-room, writing-in, writing-out, writing-end}
 use Rattle.search.proofs.write_days.Statement.{statement}
 use Rattle.search.proofs.write_days.Tie as tie
 
@@ -26,25 +20,16 @@ loop-holds c = (counting-start (c .before .args .query), writing-start _ (accept
 examine-requires : tie.Need-examine-requires Inv-loop μ-loop
 examine-requires c κs = search needs
 
-in-days : (c : tie.In-loop Inv-loop μ-loop) → c .before .loop .day ≤ lastDay
-in-days c = omega (arith, c .loop-test .taken, accepted-by _ (c .before .before .before .pre .0) .last)
-
-seen :
-    (c : tie.After-examine Inv-loop μ-loop) →
-    _≡_ {A = Examined} (c .examine .result)
-    (record { refusal = 0; matches = matches (c .before .before .before .before .args .query) (c .before .before .loop .day); next = nextDay (c .before .before .before .before .args .query) (c .before .before .loop .day) })
-seen c = c .examine .ensures ∙ examined-at _ _ (in-days (c .before))
-
-later : (c : tie.After-examine Inv-loop μ-loop) → c .before .before .loop .day + 1 ≤ c .examine .result .next
-later c = rw (seen c) (omega (arith, next-later (c .before .before .before .before .args .query) (accepted-by _ (c .before .before .before .before .pre .0) .sun) (c .before .before .loop .day)))
+seen : (c : tie.After-examine Inv-loop μ-loop) → Visit (c .before .before .before .before .args .query) (c .before .before .loop .day) (c .examine .result)
+seen c = visit _ _ _ (c .before .before .before .before .pre .0) (c .before .loop-test .taken) (c .examine .ensures)
 
 add-examined : tie.Need-add-examined Inv-loop μ-loop
-add-examined c = omega (arith, in-days (c .before))
+add-examined c = omega (arith, seen c)
 
 room : (c : tie.Then1 Inv-loop μ-loop) → c .before .before .before .loop .at + 4 ≤ length (c .before .before .before .loop .list)
 room c =
     writing-room _ (accepted-by _ (c .before .before .before .before .before .pre .0) .sun) _ _ _ _ _ (c .before .before .before .before .before .pre .1) (c .before .before .before .loop .inv .1) (c .before .before .loop-test .taken)
-    (rw (seen (c .before)) at (c .if1 .taken))
+    (rw (seen (c .before) .told) at (c .if1 .taken))
 
 put-day-requires : tie.Need-put-day-requires Inv-loop μ-loop
 put-day-requires c κs = room (c .before)
@@ -53,14 +38,14 @@ add-at : tie.Need-add-at Inv-loop μ-loop
 add-at c = omega (arith, room (c .before .before .before .before))
 
 add-length : tie.Need-add-length Inv-loop μ-loop
-add-length c = omega (arith, in-days (c .before .before .before .before .before .before))
+add-length c = omega (arith, seen (c .before .before .before .before .before))
 
 loop-less : tie.Need-loop-less Inv-loop μ-loop
-loop-less c = omega (arith, later (c .before .before .before .before .before))
+loop-less c = omega (arith, seen (c .before .before .before .before .before))
 
 loop-again : tie.Need-loop-again Inv-loop μ-loop
 loop-again c =
-    let e = seen (c .before .before .before .before .before) in
+    let e = seen (c .before .before .before .before .before) .told in
     let r = accepted-by _ (c .before .before .before .before .before .before .before .before .before .pre .0) .sun in
     let h = c .before .before .before .before .before .before .loop-test .taken in
     let i = c .before .before .before .before .before .before .before .loop .inv in
@@ -68,11 +53,11 @@ loop-again c =
     rw e (counting-in _ r _ _ _ h (i .0) f, writing-in _ r _ _ _ _ _ (c .before .before .before .before .before .before .before .before .before .pre .1) (i .1) h _ f (c .before .before .put-day .ensures))
 
 loop-less-2 : tie.Need-loop-less-2 Inv-loop μ-loop
-loop-less-2 c = omega (arith, later (c .before))
+loop-less-2 c = omega (arith, seen (c .before))
 
 loop-again-2 : tie.Need-loop-again-2 Inv-loop μ-loop
 loop-again-2 c =
-    let e = seen (c .before) in
+    let e = seen (c .before) .told in
     let r = accepted-by _ (c .before .before .before .before .before .pre .0) .sun in
     let h = c .before .before .loop-test .taken in
     let i = c .before .before .before .loop .inv in
