@@ -66,14 +66,14 @@ fn write_days(query: Query, list: &mut [u8]) -> Found
     ensures { λ f. ⌜ f ≡ record { refusal = 0; length = length (matchingDays query); examined = length (visitedDays query) } ⌝ }
     ensures { λ _. ⌜ now (list .exit) ≡ entries (matchingDays query) ++ drop (4 * length (matchingDays query)) (now (list .entry)) ⌝ }
 {
-    let last = query.last;
+    let end = query.last;
     let mut day = query.first;
     let mut length: u32 = 0;
-    let mut examined: u32 = 0;
+    let mut visits: u32 = 0;
     let mut at: usize = 0;
-    while day <= last {
+    while day <= end {
         let seen = query::examine(query, day);
-        examined += 1;
+        visits += 1;
         if seen.matches {
             put_day(list, at, day);
             at += ENTRY;
@@ -84,7 +84,7 @@ fn write_days(query: Query, list: &mut [u8]) -> Found
     Found {
         refusal: refusal::NONE,
         length,
-        examined,
+        examined: visits,
     }
 }
 
@@ -100,11 +100,11 @@ pub fn measure(query: Query) -> Found
             examined: 0,
         };
     }
-    let tally = count_days(query);
+    let counted = count_days(query);
     Found {
         refusal: refusal::NONE,
-        length: tally.length,
-        examined: tally.examined,
+        length: counted.length,
+        examined: counted.examined,
     }
 }
 

@@ -9,10 +9,10 @@ use Rattle.search.proofs.write_days.Statement.{statement}
 use Rattle.search.proofs.write_days.Tie as tie
 
 abbrev Inv-loop : tie.InvT-loop
-Inv-loop query list₀ last day₀ length₀ examined₀ at₀ list day length examined at = Counting query day length examined × Writing query list₀ list day length at
+Inv-loop query list₀ end day₀ length₀ visits₀ at₀ list day length visits at = Counting query day length visits × Writing query list₀ list day length at
 
 abbrev μ-loop : tie.MeasureT-loop
-μ-loop query list₀ last day₀ length₀ examined₀ at₀ list day length examined at = last + 1 - day
+μ-loop query list₀ end day₀ length₀ visits₀ at₀ list day length visits at = end + 1 - day
 
 loop-holds : tie.Need-loop-holds Inv-loop μ-loop
 loop-holds c = (counting-start (c .before .args .query), writing-start _ (accepted-by _ (c .before .pre .0) .sun) _)
@@ -23,8 +23,8 @@ examine-requires c κs = search needs
 seen : (c : tie.After-examine Inv-loop μ-loop) → Visit (c .before .before .before .before .args .query) (c .before .before .loop .day) (c .examine .result)
 seen c = visit _ _ _ (c .before .before .before .before .pre .0) (c .before .loop-test .taken) (c .examine .ensures)
 
-add-examined : tie.Need-add-examined Inv-loop μ-loop
-add-examined c = omega (arith, seen c)
+add-visits : tie.Need-add-visits Inv-loop μ-loop
+add-visits c = omega (arith, seen c)
 
 room : (c : tie.Then1 Inv-loop μ-loop) → c .before .before .before .loop .at + 4 ≤ length (c .before .before .before .loop .list)
 room c =
@@ -82,7 +82,7 @@ write-days-spec =
     μ-loop
     loop-holds
     examine-requires
-    add-examined
+    add-visits
     put-day-requires
     add-at
     add-length
