@@ -1,0 +1,27 @@
+-- THE CLAIM of the starred cases: the meanings give what the paper says, by computing them.
+-- Assumes nothing.
+use mathlib.Core.Path.{_≡_, refl}
+use mathlib.Core.List.{List, map}
+use Prim.Native.Nat.{ℕ}
+use Rattle.days.specs.Days.{inRange, dayOf}
+use Rattle.integers.specs.Integers.{floorOver, reduced}
+use Rattle.civil.specs.Calendar.{leap, monthDays, lost, dateExists}
+use Rattle.civil.specs.Serial.{before, serial}
+use Rattle.civil.proofs.Laws.{counted, by-count}
+use Rattle.saka.specs.LunarDays.{lunarDay, fieldsInRange, yearInRange, extraMonths, reckonedDay, havingWeekday, numberAt, answerFrom, dayOn}
+use Rattle.longitudes.specs.Longitudes.{difference, table, meanLongitude, longitudeAt, longitudesAt}
+use Rattle.longitudes.specs.Answers.{longitudesOf}
+use Rattle.panchanga.specs.TrueLongitudes.{bhuja, equation, signed, corrected, trueLongitude}
+use Rattle.panchanga.specs.Elements.{karanaAfter}
+use Rattle.panchanga.specs.OnDays.{trueSunAt, trueMoonAt, tithiAt, nakshatraAt, yogaAt, karanaAt, panchangaOf}
+use Rattle.query.specs.Conditions.{meets, within, arcsMet, elementsMet, askedInRange, arcInRange, arcsInRange, conditionsInRange}
+use Rattle.query.specs.Query.{matches, sunInArc, nextDay, refusalOf}
+use Rattle.search.specs.Days.{filtered, daysFrom, matchingDays, visitedFrom, visitedDays}
+use Rattle.search.specs.Search.{resultOf}
+use Rattle.worked.specs.Cases.{Case, starred}
+
+pub starred-hold : map (λ (c : Case). c .found) starred ≡ map (λ (c : Case). c .said) starred
+unfolding starred
+starred-hold =
+    simp by-count
+    (unfold inRange dayOf floorOver reduced leap monthDays lost dateExists before serial counted lunarDay fieldsInRange yearInRange extraMonths reckonedDay havingWeekday numberAt answerFrom dayOn difference table meanLongitude longitudeAt longitudesAt longitudesOf bhuja equation signed corrected trueLongitude karanaAfter trueSunAt trueMoonAt tithiAt nakshatraAt yogaAt karanaAt panchangaOf meets within arcsMet elementsMet askedInRange arcInRange arcsInRange conditionsInRange matches sunInArc nextDay refusalOf filtered daysFrom matchingDays visitedFrom visitedDays resultOf in refl)
