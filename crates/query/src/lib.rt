@@ -5,6 +5,7 @@ use longitudes::Body;
 use longitudes::CIRCLE;
 ghost use mathlib.Core.Path.{_≡_};
 ghost use mathlib.Core.Bool.{true, false, _&&_};
+ghost use lib.Dec.{ltb};
 ghost use Rattle.days.specs.Days.{inRange, pairAt, weekdayOn};
 ghost use Rattle.longitudes.specs.Longitudes.{difference, longitudeAt};
 ghost use Rattle.longitudes.specs.Answers.{bodyNumber};
@@ -145,12 +146,19 @@ impl Query {
 
 fn in_arc(arc: Arc, body: Body, day: Day) -> bool
     requires { ⌜ inRange day ≡ true ⌝ }
+    ensures { λ r. ⌜ r ≡ ltb (difference (longitudeAt (bodyNumber body) day) (arc .start)) (arc .width) ⌝ }
+{
+    let found = longitudes::mean_longitude(body, day);
+    let past = longitudes::difference(found.number, arc.start);
+    past < arc.width
+}
+
+fn arc_met(arc: Arc, body: Body, day: Day) -> bool
+    requires { ⌜ inRange day ≡ true ⌝ }
     ensures { λ r. ⌜ r ≡ within arc (longitudeAt (bodyNumber body) day) ⌝ }
 {
     if arc.given {
-        let found = longitudes::mean_longitude(body, day);
-        let past = longitudes::difference(found.number, arc.start);
-        past < arc.width
+        in_arc(arc, body, day)
     } else {
         true
     }
@@ -161,28 +169,28 @@ fn other_arcs_met(arcs: [Arc; 9], day: Day) -> bool
     requires { ⌜ inRange day ≡ true ⌝ }
     ensures { λ r. ⌜ (within (arcAt arcs 0) (longitudeAt 0 day) && r) ≡ arcsMet arcs day ⌝ }
 {
-    if !in_arc(arcs[1], Body::Moon, day) {
+    if !arc_met(arcs[1], Body::Moon, day) {
         return false;
     }
-    if !in_arc(arcs[2], Body::MoonApogee, day) {
+    if !arc_met(arcs[2], Body::MoonApogee, day) {
         return false;
     }
-    if !in_arc(arcs[3], Body::MoonNode, day) {
+    if !arc_met(arcs[3], Body::MoonNode, day) {
         return false;
     }
-    if !in_arc(arcs[4], Body::Mars, day) {
+    if !arc_met(arcs[4], Body::Mars, day) {
         return false;
     }
-    if !in_arc(arcs[5], Body::MercuryAnomaly, day) {
+    if !arc_met(arcs[5], Body::MercuryAnomaly, day) {
         return false;
     }
-    if !in_arc(arcs[6], Body::Jupiter, day) {
+    if !arc_met(arcs[6], Body::Jupiter, day) {
         return false;
     }
-    if !in_arc(arcs[7], Body::VenusAnomaly, day) {
+    if !arc_met(arcs[7], Body::VenusAnomaly, day) {
         return false;
     }
-    in_arc(arcs[8], Body::Saturn, day)
+    arc_met(arcs[8], Body::Saturn, day)
 }
 
 // True longitudes are dear: they are reckoned only where an element is asked for, the Sun's only for a tithi or a yoga.
