@@ -5,7 +5,7 @@ use longitudes::Body;
 use longitudes::CIRCLE;
 ghost use mathlib.Core.Path.{_≡_};
 ghost use mathlib.Core.Bool.{true, false, _&&_};
-ghost use lib.Dec.{ltb};
+ghost use Prim.Native.Nat.{ℕ, _<_};
 ghost use Rattle.days.specs.Days.{inRange, pairAt, weekdayOn};
 ghost use Rattle.longitudes.specs.Longitudes.{difference, longitudeAt};
 ghost use Rattle.longitudes.specs.Answers.{bodyNumber};
@@ -146,22 +146,29 @@ impl Query {
 
 fn in_arc(arc: Arc, body: Body, day: Day) -> bool
     requires { ⌜ inRange day ≡ true ⌝ }
-    ensures { λ r. ⌜ r ≡ ltb (difference (longitudeAt (bodyNumber body) day) (arc .start)) (arc .width) ⌝ }
-{
-    let found = longitudes::mean_longitude(body, day);
-    let past = longitudes::difference(found.number, arc.start);
-    past < arc.width
-}
-
-fn arc_met(arc: Arc, body: Body, day: Day) -> bool
-    requires { ⌜ inRange day ≡ true ⌝ }
     ensures { λ r. ⌜ r ≡ within arc (longitudeAt (bodyNumber body) day) ⌝ }
 {
     if arc.given {
-        in_arc(arc, body, day)
+        let found = longitudes::mean_longitude(body, day);
+        let past = longitudes::difference(found.number, arc.start);
+        past < arc.width
     } else {
         true
     }
+}
+
+fn other_arcs_given(arcs: [Arc; 9]) -> bool
+    ensures { λ r. ⌜ (r ≡ false → (body : ℕ) → 0 < body → body < 9 → arcAt arcs body .given ≡ false) ⌝ }
+{
+    let mut body = 1;
+    while body < 9 {
+        let arc = arcs[body];
+        if arc.given {
+            return true;
+        }
+        body += 1;
+    }
+    false
 }
 
 // The arcs of all bodies but the Sun.
@@ -169,28 +176,31 @@ fn other_arcs_met(arcs: [Arc; 9], day: Day) -> bool
     requires { ⌜ inRange day ≡ true ⌝ }
     ensures { λ r. ⌜ (within (arcAt arcs 0) (longitudeAt 0 day) && r) ≡ arcsMet arcs day ⌝ }
 {
-    if !arc_met(arcs[1], Body::Moon, day) {
+    if !other_arcs_given(arcs) {
+        return true;
+    }
+    if !in_arc(arcs[1], Body::Moon, day) {
         return false;
     }
-    if !arc_met(arcs[2], Body::MoonApogee, day) {
+    if !in_arc(arcs[2], Body::MoonApogee, day) {
         return false;
     }
-    if !arc_met(arcs[3], Body::MoonNode, day) {
+    if !in_arc(arcs[3], Body::MoonNode, day) {
         return false;
     }
-    if !arc_met(arcs[4], Body::Mars, day) {
+    if !in_arc(arcs[4], Body::Mars, day) {
         return false;
     }
-    if !arc_met(arcs[5], Body::MercuryAnomaly, day) {
+    if !in_arc(arcs[5], Body::MercuryAnomaly, day) {
         return false;
     }
-    if !arc_met(arcs[6], Body::Jupiter, day) {
+    if !in_arc(arcs[6], Body::Jupiter, day) {
         return false;
     }
-    if !arc_met(arcs[7], Body::VenusAnomaly, day) {
+    if !in_arc(arcs[7], Body::VenusAnomaly, day) {
         return false;
     }
-    arc_met(arcs[8], Body::Saturn, day)
+    in_arc(arcs[8], Body::Saturn, day)
 }
 
 // True longitudes are dear: they are reckoned only where an element is asked for, the Sun's only for a tithi or a yoga.

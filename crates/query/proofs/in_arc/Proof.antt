@@ -6,6 +6,7 @@ use Rattle.days.specs.declared.NumberAnswer.{NumberAnswer}
 use Rattle.longitudes.proofs.Answers.{given}
 use Rattle.longitudes.specs.Longitudes.{difference, longitudeAt}
 use Rattle.longitudes.specs.Answers.{bodyNumber}
+use Rattle.query.specs.Conditions.{within}
 use Rattle.query.proofs.in_arc.Statement.{statement}
 use Rattle.query.proofs.in_arc.Tie as tie
 
@@ -16,10 +17,15 @@ difference-requires : tie.Need-difference-requires
 difference-requires c κs = search needs
 
 returns : tie.Need-returns
+unfolding within
 returns c =
-    let a = c .before .before .before .args in
-    let found = ap (λ (n : NumberAnswer). n .number) (c .before .before .mean-longitude .ensures ∙ given (longitudeAt (bodyNumber (a .body))) (a .day) (c .before .before .before .pre)) in
-    rw (c .before .difference .ensures ∙ ap (λ (x : ℕ). difference x (a .arc .start)) found)
+    let a = c .before .before .before .before .args in
+    let sun = ap (λ (n : NumberAnswer). n .number) (c .before .before .mean-longitude .ensures ∙ given (longitudeAt (bodyNumber (a .body))) (a .day) (c .before .before .before .before .pre)) in
+    rw (c .before .before .before .if1 .taken, c .before .difference .ensures ∙ ap (λ (x : ℕ). difference x (a .arc .start)) sun)
+
+returns-2 : tie.Need-returns-2
+unfolding within
+returns-2 c = rw (c .if1 .left)
 
 pub in-arc-spec : {M : Type 1} → statement M
-in-arc-spec = tie.close (tie.spec mean-longitude-requires difference-requires returns)
+in-arc-spec = tie.close (tie.spec mean-longitude-requires difference-requires returns returns-2)
