@@ -1,7 +1,7 @@
 -- A test of each of the nine bodies, by its outcomes; and a day's conditions from the outcomes of their tests, case by case.
 -- Assumes nothing.
-use mathlib.Core.Path.{_≡_, sym, ap, _∙_}
-use mathlib.Core.Bool.{Bool, true, false, not, _&&_, and-true, and-false}
+use mathlib.Core.Path.{_≡_, refl, sym, ap, _∙_}
+use mathlib.Core.Bool.{Bool, true, false, not, _&&_, and-true, and-false, true≢false, false≢true}
 use mathlib.Core.List.{List}
 use Prim.Native.Nat.{ℕ, zero, suc, _<_}
 use native.Mathlib.Omega.{arith}
@@ -121,3 +121,19 @@ module _ (q : Query) (n : ℕ) where
   pub no-more : AsksNoMore q → meets (q .weekday) (weekdayOn n) ≡ true → (sunInArc q n && true) ≡ matches q n
   unfolding matches elementsMet meets sunInArc
   no-more a w = rw (w, a .tithi, a .nakshatra, a .yoga) (no-arcs (q .arcs) (pairAt n) (a .arcs) ∙ sym (and-true (arcsMet (q .arcs) (pairAt n))))
+
+  -- where the weekday decides, and where it leaves more to ask
+  pub decided : (more : Bool) → (more ≡ false → AsksNoMore q) → not (meets (q .weekday) (weekdayOn n) && more) ≡ true → (sunInArc q n && (meets (q .weekday) (weekdayOn n) && not more)) ≡ matches q n
+  decided more a y = go (meets (q .weekday) (weekdayOn n)) more refl a y
+    where
+      go : (w m : Bool) → meets (q .weekday) (weekdayOn n) ≡ w → (m ≡ false → AsksNoMore q) → not (w && m) ≡ true → (sunInArc q n && (w && not m)) ≡ matches q n
+      go false m e a y = weekday-not-met e
+      go true false e a y = no-more (a refl) e
+      go true true e a y = absurd (false≢true y)
+
+  pub undecided : (more : Bool) → not (meets (q .weekday) (weekdayOn n) && more) ≡ false → meets (q .weekday) (weekdayOn n) ≡ true
+  undecided more y = go (meets (q .weekday) (weekdayOn n)) refl y
+    where
+      go : (w : Bool) → meets (q .weekday) (weekdayOn n) ≡ w → not (w && more) ≡ false → meets (q .weekday) (weekdayOn n) ≡ true
+      go true e y = e
+      go false e y = absurd (true≢false y)

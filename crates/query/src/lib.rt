@@ -4,7 +4,7 @@ use days::refusal;
 use longitudes::Body;
 use longitudes::CIRCLE;
 ghost use mathlib.Core.Path.{_≡_};
-ghost use mathlib.Core.Bool.{true, false, _&&_};
+ghost use mathlib.Core.Bool.{true, false, not, _&&_};
 ghost use Prim.Native.Nat.{ℕ, _<_};
 ghost use Rattle.days.specs.Days.{inRange, pairAt, weekdayOn};
 ghost use Rattle.longitudes.specs.Longitudes.{difference, longitudeAt};
@@ -280,21 +280,19 @@ struct Decided {
     matches: bool,
 }
 
-fn by_weekday(query: Query, number: u32) -> Decided
-    ensures { λ r. ⌜ (r .yes ≡ true → (sunInArc query number && r .matches) ≡ matchesOn query number) ⌝ }
-    ensures { λ r. ⌜ (r .yes ≡ false → meets (query .weekday) (weekdayOn number) ≡ true) ⌝ }
+fn by_weekday(weekday: Asked, more: bool, number: u32) -> Decided
+    ensures { λ r. ⌜ r ≡ record { yes = not (meets weekday (weekdayOn number) && more); matches = meets weekday (weekdayOn number) && not more } ⌝ }
 {
-    let weekday = query.weekday;
-    if !weekday_met(weekday, number) {
-        return Decided {
+    if weekday_met(weekday, number) {
+        Decided {
+            yes: !more,
+            matches: !more,
+        }
+    } else {
+        Decided {
             yes: true,
             matches: false,
-        };
-    }
-    let more = asks_more(query);
-    Decided {
-        yes: !more,
-        matches: !more,
+        }
     }
 }
 
@@ -321,9 +319,11 @@ pub fn examine(query: Query, day: u32) -> Examined
             next: 0,
         };
     }
-    let decided = by_weekday(query, day);
+    let weekday = query.weekday;
+    let more = asks_more(query);
     let arc = query.arcs[0];
     if !arc.given {
+        let decided = by_weekday(weekday, more, day);
         if decided.yes {
             return told(decided.matches, day + 1);
         }
@@ -332,6 +332,7 @@ pub fn examine(query: Query, day: u32) -> Examined
     let sun = longitudes::mean_longitude(Body::Sun, pair.day);
     let past = longitudes::difference(sun.number, arc.start);
     if past < arc.width {
+        let decided = by_weekday(weekday, more, day);
         if decided.yes {
             return told(decided.matches, day + 1);
         }
