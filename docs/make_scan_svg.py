@@ -10,7 +10,7 @@ import pathlib
 HERE = pathlib.Path(__file__).resolve().parent
 STORED = HERE.parent / "crates/scan_days/stdout"
 CIRCLE = 1296000
-LEFT, RIGHT, WIDE, HIGH = 40, 920, 960, 500
+LEFT, RIGHT, WIDE, HIGH = 40, 920, 960, 530
 
 INK, SOFT, ARC, JUMP, HIT = "#222222", "#888888", "#f2c14e", "#2f6f9f", "#b3261e"
 
@@ -66,7 +66,7 @@ def whole(first, last, start, width, visits):
     turn = start
     while turn < high:
         if turn >= low:
-            parts += [band(at(turn), at(turn + width), y - 14, 28), text(at(turn), y + 50, f"arc, circle {turn // CIRCLE}", 12, fill=SOFT)]
+            parts += [band(at(turn), at(turn + width), y - 14, 28), text(at(turn), y + 50, "the arc", 12, fill=SOFT)]
         turn += CIRCLE
     parts.append(line(LEFT, y, RIGHT, y))
     for this, that in zip(visits, visits[1:]):
@@ -77,7 +77,8 @@ def whole(first, last, start, width, visits):
     parts += [leap(at(end["at"]), RIGHT, y, 48, False), text((at(end["at"]) + RIGHT) / 2, y - 66, f"to day {end['next']}, past the last: the end", 12, fill=JUMP)]
     for visit in visits:
         parts.append(dot(at(visit["at"]), y, visit["matches"]))
-    return parts + [text(at(end["at"]), y + 32, "376, 377", 12), text(at(visits[0]["at"]), y + 32, "0", 12), text(at(visits[2]["at"]), y + 32, "11, 12", 12)]
+    named = [(visits[:1], "middle", -4), (visits[1:3], "start", -6), (visits[3:], "middle", 0)]
+    return parts + [text(at(some[-1]["at"]) + aside, y + 32, ", ".join(str(visit["day"]) for visit in some), 12, anchor) for some, anchor, aside in named]
 
 
 def close(y, heading, centre, width, before, visits):
@@ -106,8 +107,8 @@ def picture():
     first, last, start, width, visits = read()
     assert start == 0 and len(visits) == 5, "the layout is for the worked query"
     parts = whole(first, last, start, width, visits)
-    parts += close(302, "Near the first arc", CIRCLE, width, None, visits)
-    parts += close(432, "Near the second arc, a year later", 2 * CIRCLE, width, visits[2], visits)
+    parts += close(310, "Near the first arc", CIRCLE, width, None, visits)
+    parts += close(456, "Near the second arc, a year later", 2 * CIRCLE, width, visits[2], visits)
     head = f'<marker id="head" viewBox="0 0 8 8" refX="7" refY="4" markerWidth="7" markerHeight="7" orient="auto"><path d="M 0 0 L 8 4 L 0 8 z" fill="{JUMP}"/></marker>'
     return "\n".join([f'<svg xmlns="http://www.w3.org/2000/svg" viewBox="0 0 {WIDE} {HIGH}" font-family="sans-serif">', f"<defs>{head}</defs>", f'<rect width="{WIDE}" height="{HIGH}" fill="white"/>', *parts, "</svg>"]) + "\n"
 

@@ -21,32 +21,38 @@ const NO_ARC: Arc = Arc {
     width: 0,
 };
 
-const SUN_ARC: Arc = Arc {
-    given: true,
-    start: 0,
-    width: 3600,
-};
-
-const WORKED: Query = Query {
-    first: 0,
-    last: 729,
-    weekday: NOT_ASKED,
-    tithi: NOT_ASKED,
-    nakshatra: NOT_ASKED,
-    yoga: NOT_ASKED,
-    arcs: [SUN_ARC, NO_ARC, NO_ARC, NO_ARC, NO_ARC, NO_ARC, NO_ARC, NO_ARC, NO_ARC],
-};
+// Days 0 to 729, the Sun's arc from 0, width 3600.
+fn worked() -> Query
+    ensures { λ query. ⌜ refusalOf query ≡ 0 ⌝ }
+{
+    let mut arcs = [NO_ARC; 9];
+    arcs[0] = Arc {
+        given: true,
+        start: 0,
+        width: 3600,
+    };
+    Query {
+        first: 0,
+        last: 729,
+        weekday: NOT_ASKED,
+        tithi: NOT_ASKED,
+        nakshatra: NOT_ASKED,
+        yoga: NOT_ASKED,
+        arcs,
+    }
+}
 
 fn print(number: u32, end: &[u8]) {
     io::print_decimal(STDOUT_FILENO, number as u64);
     io::write_all(STDOUT_FILENO, end);
 }
 
-fn show_query() {
-    print(WORKED.first, b" ");
-    print(WORKED.last, b" ");
-    print(SUN_ARC.start, b" ");
-    print(SUN_ARC.width, b"\n");
+fn show_query(query: Query) {
+    let arc = query.arcs[0];
+    print(query.first, b" ");
+    print(query.last, b" ");
+    print(arc.start, b" ");
+    print(arc.width, b"\n");
 }
 
 fn show_visit(day: u32, seen: Examined) {
@@ -71,6 +77,7 @@ fn show_scan(query: Query)
 }
 
 fn main() {
-    show_query();
-    show_scan(WORKED);
+    let query = worked();
+    show_query(query);
+    show_scan(query);
 }
