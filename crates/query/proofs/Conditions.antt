@@ -45,6 +45,12 @@ module _ (arcs : List Arc) (d : Day) where
   abbrev met : ℕ → Bool
   met body = within (arcAt arcs body) (longitudeAt body d)
 
+  -- no other arc is given
+  pub no-arcs : ((body : ℕ) → 0 < body → body < 9 → arcAt arcs body .given ≡ false) → (met 0 && true) ≡ arcsMet arcs d
+  unfolding arcsMet within
+  no-arcs h =
+      rw (h 1 (lit< tt) (lit< tt), h 2 (lit< tt) (lit< tt), h 3 (lit< tt) (lit< tt), h 4 (lit< tt) (lit< tt), h 5 (lit< tt) (lit< tt), h 6 (lit< tt) (lit< tt), h 7 (lit< tt) (lit< tt), h 8 (lit< tt) (lit< tt))
+
   -- an arc that is not met decides
   pub arc-not-met : (body : ℕ) (found : Bool) → body < 9 → found ≡ met body → not found ≡ true → (met 0 && false) ≡ arcsMet arcs d
   unfolding arcsMet

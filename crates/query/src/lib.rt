@@ -5,6 +5,7 @@ use longitudes::Body;
 use longitudes::CIRCLE;
 ghost use mathlib.Core.Path.{_≡_};
 ghost use mathlib.Core.Bool.{true, false, _&&_};
+ghost use Prim.Native.Nat.{ℕ, _<_};
 ghost use Rattle.days.specs.Days.{inRange, pairAt, weekdayOn};
 ghost use Rattle.longitudes.specs.Longitudes.{difference, longitudeAt};
 ghost use Rattle.longitudes.specs.Answers.{bodyNumber};
@@ -156,11 +157,28 @@ fn in_arc(arc: Arc, body: Body, day: Day) -> bool
     }
 }
 
+fn other_arcs_given(arcs: [Arc; 9]) -> bool
+    ensures { λ r. ⌜ (r ≡ false → (body : ℕ) → 0 < body → body < 9 → arcAt arcs body .given ≡ false) ⌝ }
+{
+    let mut body = 1;
+    while body < 9 {
+        let arc = arcs[body];
+        if arc.given {
+            return true;
+        }
+        body += 1;
+    }
+    false
+}
+
 // The arcs of all bodies but the Sun.
 fn other_arcs_met(arcs: [Arc; 9], day: Day) -> bool
     requires { ⌜ inRange day ≡ true ⌝ }
     ensures { λ r. ⌜ (within (arcAt arcs 0) (longitudeAt 0 day) && r) ≡ arcsMet arcs day ⌝ }
 {
+    if !other_arcs_given(arcs) {
+        return true;
+    }
     if !in_arc(arcs[1], Body::Moon, day) {
         return false;
     }

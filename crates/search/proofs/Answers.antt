@@ -3,18 +3,18 @@
 use Prim.Native.Nat.{ℕ, _+_, _*_, _-_, _≤_, _<_}
 use mathlib.Core.Path.{_≡_, refl, ap, sym, _∙_}
 use mathlib.Core.Bool.{Bool, true, false, cond, _&&_, false≢true}
-use mathlib.Core.List.{List, _++_}
+use mathlib.Core.List.{List}
 use native.Mathlib.Omega.{arith}
-use lib.Dec.{leb}
-use lib.ListN.{length, drop}
-use borrow.Author.Tests.{leb-true, le-leb, lt-leb, eq-eqb, ne-eqb}
+use lib.Dec.{leb, ltb}
+use lib.ListN.{length}
+use borrow.Author.Tests.{leb-true, ltb-true, le-leb, lt-leb, eq-eqb, ne-eqb}
 use Rattle.days.specs.Days.{lastDay}
 use Rattle.query.specs.declared.Query.{Query}
 use Rattle.query.specs.Conditions.{arcAt, askedInRange, arcInRange, arcsInRange, conditionsInRange, elementsMet}
 use Rattle.query.specs.Query.{matches, refusalOf}
 use Rattle.search.specs.declared.Tally.{Tally}
 use Rattle.search.specs.Days.{filtered, daysFrom, spanLength, matchingDays, visitedDays, visitLimit, Tallied}
-use Rattle.search.specs.Search.{entries, capacity, resultOf, listAfter, Measured, Searched}
+use Rattle.search.specs.Search.{withEntries, capacity, resultOf, listAfter, Measured, Searched}
 use Rattle.search.proofs.Arc.{sunArc}
 use Rattle.search.proofs.Filter.{filtered-end, filtered-short}
 use Rattle.search.proofs.Limit.{visits-limited}
@@ -99,7 +99,7 @@ module _ (q : Query) where
       pub all-written :
           (m : List ℕ) →
           n ≤ capacity l →
-          m ≡ entries (matchingDays q) ++ drop (4 * length (matchingDays q)) l →
+          m ≡ withEntries (matchingDays q) l →
           Searched q l (record { refusal = 0; length = n; examined = k }) m
       unfolding resultOf listAfter
       all-written m h w =
@@ -139,6 +139,10 @@ module _ (q : Query) (t : Tally) (e : refusalOf q ≡ 0) (c : Tallied q t) where
       same : filtered (matches (until q (t .latest))) (daysFrom (q .first) (t .latest + 1 - q .first)) ≡ filtered (matches q) (daysFrom (q .first) (t .latest + 1 - q .first))
       same = unfold matches elementsMet in refl
 
-pub matching-fits : (q : Query) → length (matchingDays q) ≤ spanLength q
+matching-fits : (q : Query) → length (matchingDays q) ≤ spanLength q
 unfolding matchingDays
 matching-fits q = filtered-short (matches q) (q .first) (spanLength q)
+
+-- a list with more entries than the span's days less one has room for whatever matches
+pub roomy-fits : (q : Query) (room : ℕ) → refusalOf q ≡ 0 → ltb (q .last - q .first) room ≡ true → length (matchingDays q) ≤ room
+roomy-fits q room e w = omega (arith, matching-fits q, accepted-by q e .first, ltb-true (q .last - q .first) room w)

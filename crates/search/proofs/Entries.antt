@@ -6,7 +6,7 @@ use mathlib.Core.List.{List, [], _∷_, _++_, append-assoc, append-nil}
 use native.Mathlib.Omega.{arith}
 use lib.ListN.{length, take, drop, set, length-append}
 use lib.Seq.{take-at, drop-at, drop-drop}
-use Rattle.search.specs.Search.{entry, entries}
+use Rattle.search.specs.Search.{entry, entries, withEntry, withEntries}
 
 pub entry-length : (d : ℕ) → length (entry d) ≡ 4
 unfolding entry
@@ -28,7 +28,7 @@ pub entries-next :
     length done ≡ i →
     at ≡ 4 * i →
     m ≡ entries done ++ drop (4 * i) l →
-    take at m ++ (entry d ++ drop (at + 4) m) ≡ entries (done ++ (d ∷ [])) ++ drop (4 * (i + 1)) l
+    withEntry m at d ≡ entries (done ++ (d ∷ [])) ++ drop (4 * (i + 1)) l
 entries-next done d m l i at s p e =
     let n : length (entries done) ≡ at = omega (arith, entries-length done) in
     let front : take at m ≡ entries done = ap (take at) e ∙ take-at (entries done) (drop (4 * i) l) at n in
@@ -61,7 +61,7 @@ put-four (suc i) (x ∷ l) a b c d h =
     rw (one, two, three, four) (ap (λ (t : List ℕ). x ∷ t) (put-four i l a b c d (omega arith)))
 
 -- without days nothing is written
-pub no-entries : (ds l : List ℕ) → length ds ≡ 0 → l ≡ entries ds ++ drop (4 * length ds) l
+pub no-entries : (ds l : List ℕ) → length ds ≡ 0 → l ≡ withEntries ds l
 unfolding entries
 no-entries [] l e = refl
 no-entries (d ∷ ds) l e = absurd (omega arith)

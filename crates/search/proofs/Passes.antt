@@ -2,11 +2,11 @@
 -- Assumes nothing.
 use Prim.Native.Nat.{ℕ, suc, _+_, _*_, _-_, _≤_, _<_}
 use mathlib.Core.Path.{_≡_, refl, ap, ap₂, sym, _∙_}
-use mathlib.Core.Bool.{true, false}
+use mathlib.Core.Bool.{Bool, true, false, cond, false≢true}
 use mathlib.Core.List.{List, [], _∷_, _++_, append-assoc, append-nil}
 use native.Mathlib.Omega.{arith}
 use native.Mathlib.Decide.{decLe}
-use lib.ListN.{length, take, drop, length-append, length-drop}
+use lib.ListN.{length, drop, length-append, length-drop}
 use Rattle.days.specs.Days.{lastDay}
 use Rattle.query.specs.declared.Query.{Query}
 use Rattle.query.specs.declared.Examined.{Examined}
@@ -14,7 +14,7 @@ use Rattle.query.specs.Conditions.{arcInRange}
 use Rattle.query.specs.Query.{matches, nextDay, examinedOf, refusalOf}
 use Rattle.search.specs.Days.{filtered, visitedDays, matchingDays, Tallied}
 use Rattle.search.specs.declared.Tally.{Tally}
-use Rattle.search.specs.Search.{entry, entries}
+use Rattle.search.specs.Search.{entries, withEntry, withEntries}
 use Rattle.search.proofs.Arc.{sunArc, next-later}
 use Rattle.search.proofs.Filter.{filtered-in, filtered-out, filtered-nil}
 use Rattle.query.proofs.Scan.{outside-unmatched, examined-at}
@@ -46,7 +46,7 @@ pub record Counting (q : Query) (d n k : ℕ) : Type 0 where
   pub fewer : n ≤ k
   pub gone : k + q .first ≤ d
 
-pub counting-start : (q : Query) → Counting q (q .first) 0 0
+counting-start : (q : Query) → Counting q (q .first) 0 0
 unfolding visitedDays
 counting-start q = omega arith
 
@@ -56,7 +56,7 @@ pub record Latest (q : Query) (d latest : ℕ) : Type 0 where
   pub to-last : latest ≤ q .last
   pub quiet : (m : ℕ) → latest < m → m < d → matches q m ≡ false
 
-pub latest-start : (q : Query) → q .first ≤ q .last → Latest q (q .first) (q .first)
+latest-start : (q : Query) → q .first ≤ q .last → Latest q (q .first) (q .first)
 latest-start q h = record { from-first = omega arith; to-last = h; quiet = λ m a b. absurd (omega arith) }
 
 -- the list l, now m, has the entries of the i days that matched, up to the byte `at`
@@ -66,6 +66,11 @@ pub record Writing (q : Query) (l m : List ℕ) (d i at : ℕ) : Type 0 where
   pub size : length done ≡ i
   pub place : at ≡ 4 * i
   pub left : m ≡ entries done ++ drop (4 * i) l
+
+-- a pass that writes, and one that leaves the list as it was
+pub Progress : Bool → Query → List ℕ → List ℕ → ℕ → ℕ → ℕ → Type 0
+Progress true q l m d i at = Writing q l m d i at
+Progress false q l m d i at = m ≡ l
 
 module _ (q : Query) (r : arcInRange (sunArc q) ≡ true) where
   ahead-in : (d : ℕ) → d ≤ q .last → matches q d ≡ true → ahead q d ≡ d ∷ ahead q (nextDay q d)
@@ -78,13 +83,13 @@ module _ (q : Query) (r : arcInRange (sunArc q) ≡ true) where
   ahead-end d h = ap (filtered (matches q)) (rest-end q r d h) ∙ filtered-nil (matches q)
 
   module _ (d n k : ℕ) (h : d ≤ q .last) (c : Counting q d n k) where
-    pub counting-in : matches q d ≡ true → Counting q (nextDay q d) (n + 1) (k + 1)
+    counting-in : matches q d ≡ true → Counting q (nextDay q d) (n + 1) (k + 1)
     counting-in f = omega (arith, next-later q r d, ap length (ahead-in d h f), ap length (rest-more q r d h))
 
-    pub counting-out : matches q d ≡ false → Counting q (nextDay q d) n (k + 1)
+    counting-out : matches q d ≡ false → Counting q (nextDay q d) n (k + 1)
     counting-out f = omega (arith, next-later q r d, ap length (ahead-out d h f), ap length (rest-more q r d h))
 
-  pub counting-end : (d n k : ℕ) → q .last < d → Counting q d n k → (n ≡ length (matchingDays q)) × (k ≡ length (visitedDays q))
+  counting-end : (d n k : ℕ) → q .last < d → Counting q d n k → (n ≡ length (matchingDays q)) × (k ≡ length (visitedDays q))
   counting-end d n k h c = omega (arith, ap length (ahead-end d h), ap length (rest-end q r d h), ap length (matching-visited q r))
 
   between : (d m : ℕ) → d < m → m < nextDay q d → matches q m ≡ false
@@ -92,10 +97,10 @@ module _ (q : Query) (r : arcInRange (sunArc q) ≡ true) where
       ap (matches q) (omega arith)
       ∙ outside-unmatched q (d + (m - d)) (skipped q r d (m - d) (omega arith) (omega arith))
 
-  pub latest-in : (d latest : ℕ) → d ≤ q .last → q .first ≤ d → Latest q (nextDay q d) d
+  latest-in : (d latest : ℕ) → d ≤ q .last → q .first ≤ d → Latest q (nextDay q d) d
   latest-in d latest h f = record { from-first = f; to-last = h; quiet = λ m a b. between d m a b }
 
-  pub latest-out : (d latest : ℕ) → matches q d ≡ false → Latest q d latest → Latest q (nextDay q d) latest
+  latest-out : (d latest : ℕ) → matches q d ≡ false → Latest q d latest → Latest q (nextDay q d) latest
   latest-out d latest f c =
       record { from-first = c .from-first; to-last = c .to-last; quiet = λ m a b. before m a b (decLe (suc m) d) (decLe (suc d) m) }
     where
@@ -104,7 +109,7 @@ module _ (q : Query) (r : arcInRange (sunArc q) ≡ true) where
       before m a b (no l) (yes u) = between d m (omega arith) b
       before m a b (no l) (no u) = ap (matches q) (omega arith) ∙ f
 
-  pub tallied : (d : ℕ) (tally : Tally) → q .last < d → Counting q d (tally .length) (tally .examined) → Latest q d (tally .latest) → Tallied q tally
+  tallied : (d : ℕ) (tally : Tally) → q .last < d → Counting q d (tally .length) (tally .examined) → Latest q d (tally .latest) → Tallied q tally
   tallied d tally h c l =
       let e = counting-end d (tally .length) (tally .examined) h c in
       record {
@@ -115,23 +120,39 @@ module _ (q : Query) (r : arcInRange (sunArc q) ≡ true) where
         none-later = λ m a b. l .quiet m a (omega arith);
       }
 
-  pub writing-start : (l : List ℕ) → Writing q l l (q .first) 0 0
-  unfolding visitedDays entries
-  writing-start l = record { done = []; whole = matching-visited q r; size = refl; place = refl; left = refl }
+  progress-start : (writing : Bool) (l : List ℕ) → Progress writing q l l (q .first) 0 0
+  unfolding Progress visitedDays entries
+  progress-start true l = record { done = []; whole = matching-visited q r; size = refl; place = refl; left = refl }
+  progress-start false l = refl
 
-  module _ (l m : List ℕ) (d i at : ℕ) (room : 4 * length (matchingDays q) ≤ length l) (w : Writing q l m d i at) where
-    size-up : i + length (ahead q d) ≡ length (matchingDays q)
-    size-up = omega (arith, w .size, simp length-append at (ap length (w .whole)))
+  module _ (l m : List ℕ) (d i at : ℕ) where
+    size-up : Writing q l m d i at → i + length (ahead q d) ≡ length (matchingDays q)
+    size-up w = omega (arith, w .size, simp length-append at (ap length (w .whole)))
 
-    pub writing-length : length m ≡ length l
-    writing-length = ap length (w .left) ∙ simp (length-append, length-drop) (omega (arith, entries-length (w .done), w .size, size-up))
+    written-length : 4 * length (matchingDays q) ≤ length l → Writing q l m d i at → length m ≡ length l
+    written-length room w = ap length (w .left) ∙ simp (length-append, length-drop) (omega (arith, entries-length (w .done), w .size, size-up w))
+
+    progress-length : (writing : Bool) → (writing ≡ true → 4 * length (matchingDays q) ≤ length l) → Progress writing q l m d i at → length m ≡ length l
+    unfolding Progress
+    progress-length true room w = written-length (room refl) w
+    progress-length false room w = ap length w
+
+    progress-end : (writing : Bool) → q .last < d → Progress writing q l m d i at → m ≡ cond writing (withEntries (matchingDays q) l) l
+    unfolding Progress
+    progress-end true h w =
+        let e : w .done ≡ matchingDays q = sym (append-nil (w .done)) ∙ ap (λ (t : List ℕ). w .done ++ t) (sym (ahead-end d h)) ∙ w .whole in
+        w .left ∙ ap₂ (λ (a b : List ℕ). a ++ b) (ap entries e) (ap (λ (n : ℕ). drop (4 * n) l) (sym (w .size) ∙ ap length e))
+    progress-end false h w = w
 
     module _ (h : d ≤ q .last) where
-      pub writing-room : matches q d ≡ true → at + 4 ≤ length m
-      writing-room f = omega (arith, writing-length, size-up, ap length (ahead-in d h f), w .place)
+      progress-room : (writing : Bool) → (writing ≡ true → 4 * length (matchingDays q) ≤ length l) → matches q d ≡ true → Progress writing q l m d i at → writing ≡ true → at + 4 ≤ length m
+      unfolding Progress
+      progress-room true room f w e = omega (arith, written-length (room refl) w, size-up w, ap length (ahead-in d h f), w .place, room refl)
+      progress-room false room f w e = absurd (false≢true e)
 
-      pub writing-in : (x : List ℕ) → matches q d ≡ true → x ≡ take at m ++ (entry d ++ drop (at + 4) m) → Writing q l x (nextDay q d) (i + 1) (at + 4)
-      writing-in x f e =
+      progress-in : (writing : Bool) (x : List ℕ) → matches q d ≡ true → x ≡ cond writing (withEntry m at d) m → Progress writing q l m d i at → Progress writing q l x (nextDay q d) (i + 1) (at + 4)
+      unfolding Progress
+      progress-in true x f e w =
           record {
             done = w .done ++ (d ∷ []);
             whole = append-assoc (w .done) (d ∷ []) (ahead q (nextDay q d)) ∙ ap (λ (t : List ℕ). w .done ++ t) (sym (ahead-in d h f)) ∙ w .whole;
@@ -139,9 +160,11 @@ module _ (q : Query) (r : arcInRange (sunArc q) ≡ true) where
             place = omega (arith, w .place);
             left = e ∙ entries-next (w .done) d m l i at (w .size) (w .place) (w .left);
           }
+      progress-in false x f e w = e ∙ w
 
-      pub writing-out : matches q d ≡ false → Writing q l m (nextDay q d) i at
-      writing-out f =
+      progress-out : (writing : Bool) → matches q d ≡ false → Progress writing q l m d i at → Progress writing q l m (nextDay q d) i at
+      unfolding Progress
+      progress-out true f w =
           record {
             done = w .done;
             whole = ap (λ (t : List ℕ). w .done ++ t) (sym (ahead-out d h f)) ∙ w .whole;
@@ -149,8 +172,50 @@ module _ (q : Query) (r : arcInRange (sunArc q) ≡ true) where
             place = w .place;
             left = w .left;
           }
+      progress-out false f w = w
 
-    pub writing-end : q .last < d → m ≡ entries (matchingDays q) ++ drop (4 * length (matchingDays q)) l
-    writing-end h =
-        let e : w .done ≡ matchingDays q = sym (append-nil (w .done)) ∙ ap (λ (t : List ℕ). w .done ++ t) (sym (ahead-end d h)) ∙ w .whole in
-        w .left ∙ ap₂ (λ (a b : List ℕ). a ++ b) (ap entries e) (ap (λ (n : ℕ). drop (4 * n) l) (sym (w .size) ∙ ap length e))
+-- all that holds of a pass before the visit of day d
+pub record Scanning (q : Query) (writing : Bool) (l m : List ℕ) (d n k latest at : ℕ) : Type 0 where
+  pub counting : Counting q d n k
+  pub last-match : Latest q d latest
+  pub progress : Progress writing q l m d n at
+  pub place : at ≡ 4 * n
+
+module _ (q : Query) (writing : Bool) (l : List ℕ) (e : refusalOf q ≡ 0) (room : writing ≡ true → 4 * length (matchingDays q) ≤ length l) where
+  pub scanning-start : Scanning q writing l l (q .first) 0 0 (q .first) 0
+  scanning-start =
+      let a = accepted-by q e in
+      record { counting = counting-start q; last-match = latest-start q (a .first); progress = progress-start q (a .sun) writing l; place = refl }
+
+  module _ (m : List ℕ) (d n k latest at : ℕ) (s : Scanning q writing l m d n k latest at) where
+    pub scanning-length : length m ≡ length l
+    scanning-length = progress-length q (accepted-by q e .sun) l m d n at writing room (s .progress)
+
+    pub scanning-end : (tally : Tally) → q .last < d → tally ≡ record { length = n; examined = k; latest = latest } → Tallied q tally × (m ≡ cond writing (withEntries (matchingDays q) l) l)
+    scanning-end tally h t =
+        let r = accepted-by q e .sun in
+        (rw t (tallied q r d (record { length = n; examined = k; latest = latest }) h (s .counting) (s .last-match)), progress-end q r l m d n at writing h (s .progress))
+
+    module _ (h : d ≤ q .last) where
+      pub scanning-room : matches q d ≡ true → writing ≡ true → at + 4 ≤ length m
+      scanning-room f w = progress-room q (accepted-by q e .sun) l m d n at h writing room f (s .progress) w
+
+      pub scanning-in : (x : List ℕ) → matches q d ≡ true → x ≡ cond writing (withEntry m at d) m → Scanning q writing l x (nextDay q d) (n + 1) (k + 1) d (at + 4)
+      scanning-in x f w =
+          let r = accepted-by q e .sun in
+          record {
+            counting = counting-in q r d n k h (s .counting) f;
+            last-match = latest-in q r d latest h (omega (arith, s .counting .gone));
+            progress = progress-in q r l m d n at h writing x f w (s .progress);
+            place = omega (arith, s .place);
+          }
+
+      pub scanning-out : matches q d ≡ false → Scanning q writing l m (nextDay q d) n (k + 1) latest at
+      scanning-out f =
+          let r = accepted-by q e .sun in
+          record {
+            counting = counting-out q r d n k h (s .counting) f;
+            last-match = latest-out q r d latest f (s .last-match);
+            progress = progress-out q r l m d n at h writing f (s .progress);
+            place = s .place;
+          }

@@ -3,9 +3,9 @@
 use mathlib.Core.Path.{_≡_}
 use mathlib.Core.Bool.{true, cond}
 use mathlib.Core.List.{List, [], _∷_, _++_}
-use Prim.Native.Nat.{ℕ, _*_, _/_, _%_, _≤_}
+use Prim.Native.Nat.{ℕ, _+_, _*_, _/_, _%_, _≤_}
 use lib.Dec.{leb, eqb}
-use lib.ListN.{length, drop}
+use lib.ListN.{length, take, drop}
 use Rattle.days.specs.Refusals.{accepted, listTooShort}
 use Rattle.query.specs.declared.Query.{Query}
 use Rattle.query.specs.Conditions.{arcAt}
@@ -21,6 +21,14 @@ unfoldable pub entries : List ℕ → List ℕ
 entries [] = []
 entries (d ∷ ds) = entry d ++ entries ds
 
+-- a list with a day's entry at the byte `at`
+abbrev pub withEntry : List ℕ → ℕ → ℕ → List ℕ
+withEntry list at day = take at list ++ (entry day ++ drop (at + 4) list)
+
+-- a list with the days' entries at its front, and behind them what was there
+abbrev pub withEntries : List ℕ → List ℕ → List ℕ
+withEntries days list = entries days ++ drop (4 * length days) list
+
 -- how many entries a list has; a tail under four bytes is none
 abbrev pub capacity : List ℕ → ℕ
 capacity list = length list / 4
@@ -33,12 +41,9 @@ resultOf q room = cond (eqb (refusalOf q) accepted) (cond (leb (length (matching
 abbrev pub told : Query → ℕ → ℕ
 told q n = cond (eqb (refusalOf q) accepted) n 0
 
--- the matching days' entries, and behind them what was there; a refusal leaves the whole list as it was
+-- the list after: with the matching days' entries, or by any refusal the whole list as it was
 unfoldable pub listAfter : Query → List ℕ → List ℕ
-listAfter q before =
-    cond (eqb (resultOf q (capacity before)) accepted)
-    (entries (matchingDays q) ++ drop (4 * length (matchingDays q)) before)
-    before
+listAfter q before = cond (eqb (resultOf q (capacity before)) accepted) (withEntries (matchingDays q) before) before
 
 -- what is told without a list: the length and the visits, which are the same for 0 and 7
 pub record Measured (q : Query) (found : Found) : Type 0 where

@@ -2,12 +2,12 @@
 use days::refusal;
 use query::Query;
 ghost use mathlib.Core.Path.{_≡_};
-ghost use mathlib.Core.List.{_++_};
+ghost use mathlib.Core.Bool.{true, cond};
 ghost use Prim.Native.Nat.{_+_, _*_, _≤_};
-ghost use lib.ListN.{length, take, drop};
+ghost use lib.ListN.{length};
 ghost use Rattle.query.specs.Query.{refusalOf};
-ghost use Rattle.search.specs.Days.{matchingDays, visitedDays, Tallied};
-ghost use Rattle.search.specs.Search.{entry as entryOf, entries, Measured, Searched};
+ghost use Rattle.search.specs.Days.{matchingDays, Tallied};
+ghost use Rattle.search.specs.Search.{withEntry, withEntries, Measured, Searched};
 
 // The bytes of an entry of the list.
 const ENTRY: usize = 4;
@@ -26,19 +26,44 @@ struct Tally {
     latest: u32,
 }
 
-fn count_days(query: Query) -> Tally
+fn put_day(list: &mut [u8], at: usize, day: u32)
+    requires { ⌜ at + 4 ≤ length (now list) ⌝ }
+    ensures { λ _. ⌜ now (list .exit) ≡ withEntry (now (list .entry)) at day ⌝ }
+{
+    list[at] = (day % 256) as u8;
+    list[at + 1] = (day / 256 % 256) as u8;
+    list[at + 2] = (day / 65536 % 256) as u8;
+    list[at + 3] = (day / 16777216 % 256) as u8;
+}
+
+fn put_if(writing: bool, list: &mut [u8], at: usize, day: u32)
+    requires { ⌜ (writing ≡ true → at + 4 ≤ length (now list)) ⌝ }
+    ensures { λ _. ⌜ now (list .exit) ≡ cond writing (withEntry (now (list .entry)) at day) (now (list .entry)) ⌝ }
+{
+    if writing {
+        put_day(list, at, day);
+    }
+}
+
+// One pass over the visited days: it counts, and where `writing` is set it writes the matching days to the list too.
+fn scan(query: Query, writing: bool, list: &mut [u8]) -> Tally
     requires { ⌜ refusalOf query ≡ 0 ⌝ }
+    requires { ⌜ (writing ≡ true → 4 * length (matchingDays query) ≤ length (now list)) ⌝ }
     ensures { λ t. ⌜ Tallied query t ⌝ }
+    ensures { λ _. ⌜ now (list .exit) ≡ cond writing (withEntries (matchingDays query) (now (list .entry))) (now (list .entry)) ⌝ }
 {
     let last = query.last;
     let mut day = query.first;
     let mut length: u32 = 0;
     let mut examined: u32 = 0;
     let mut latest = day;
+    let mut at: usize = 0;
     while day <= last {
         let seen = query::examine(query, day);
         examined += 1;
         if seen.matches {
+            put_if(writing, list, at, day);
+            at += ENTRY;
             length += 1;
             latest = day;
         }
@@ -51,40 +76,23 @@ fn count_days(query: Query) -> Tally
     }
 }
 
-fn put_day(list: &mut [u8], at: usize, day: u32)
-    requires { ⌜ at + 4 ≤ length (now list) ⌝ }
-    ensures { λ _. ⌜ now (list .exit) ≡ take at (now (list .entry)) ++ (entryOf day ++ drop (at + 4) (now (list .entry))) ⌝ }
+fn told(refusal: u32, tally: Tally) -> Found
+    ensures { λ f. ⌜ f ≡ record { refusal = refusal; length = tally .length; examined = tally .examined } ⌝ }
 {
-    list[at] = (day % 256) as u8;
-    list[at + 1] = (day / 256 % 256) as u8;
-    list[at + 2] = (day / 65536 % 256) as u8;
-    list[at + 3] = (day / 16777216 % 256) as u8;
+    Found {
+        refusal,
+        length: tally.length,
+        examined: tally.examined,
+    }
 }
 
-fn write_days(query: Query, list: &mut [u8]) -> Found
-    requires { ⌜ (refusalOf query ≡ 0) × (4 * length (matchingDays query) ≤ length (now list)) ⌝ }
-    ensures { λ f. ⌜ f ≡ record { refusal = 0; length = length (matchingDays query); examined = length (visitedDays query) } ⌝ }
-    ensures { λ _. ⌜ now (list .exit) ≡ entries (matchingDays query) ++ drop (4 * length (matchingDays query)) (now (list .entry)) ⌝ }
+fn refused(refusal: u32) -> Found
+    ensures { λ f. ⌜ f ≡ record { refusal = refusal; length = 0; examined = 0 } ⌝ }
 {
-    let end = query.last;
-    let mut day = query.first;
-    let mut length: u32 = 0;
-    let mut visits: u32 = 0;
-    let mut at: usize = 0;
-    while day <= end {
-        let seen = query::examine(query, day);
-        visits += 1;
-        if seen.matches {
-            put_day(list, at, day);
-            at += ENTRY;
-            length += 1;
-        }
-        day = seen.next;
-    }
     Found {
-        refusal: refusal::NONE,
-        length,
-        examined: visits,
+        refusal,
+        length: 0,
+        examined: 0,
     }
 }
 
@@ -94,18 +102,10 @@ pub fn measure(query: Query) -> Found
 {
     let refusal = query.refusal();
     if refusal != refusal::NONE {
-        return Found {
-            refusal,
-            length: 0,
-            examined: 0,
-        };
+        return refused(refusal);
     }
-    let counted = count_days(query);
-    Found {
-        refusal: refusal::NONE,
-        length: counted.length,
-        examined: counted.examined,
-    }
+    let mut none = [0u8; 0];
+    told(refusal::NONE, scan(query, false, &mut none))
 }
 
 // Writes the matching days to the list, earliest first, or leaves it as it was.
@@ -114,36 +114,26 @@ pub fn search(query: Query, list: &mut [u8]) -> Found
 {
     let refusal = query.refusal();
     if refusal != refusal::NONE {
-        return Found {
-            refusal,
-            length: 0,
-            examined: 0,
-        };
+        return refused(refusal);
     }
     let capacity = list.len() / ENTRY;
     let days_less_one = (query.last - query.first) as usize;
-    if days_less_one < capacity {
-        // There is an entry for each day of the span, so whatever matches fits: one pass counts and writes.
-        return write_days(query, list);
+    // With an entry for each day of the span whatever matches fits, and one pass counts and writes.
+    let roomy = days_less_one < capacity;
+    let tally = scan(query, roomy, list);
+    if roomy {
+        return told(refusal::NONE, tally);
     }
-    let tally = count_days(query);
     let needed = tally.length as usize;
     if capacity < needed {
-        return Found {
-            refusal: refusal::LIST_TOO_SHORT,
-            length: tally.length,
-            examined: tally.examined,
-        };
+        return told(refusal::LIST_TOO_SHORT, tally);
     }
-    if 0 < needed {
-        // No day after the last one that matched is gone over again.
-        let mut shortened = query;
-        shortened.last = tally.latest;
-        write_days(shortened, list);
+    if needed == 0 {
+        return told(refusal::NONE, tally);
     }
-    Found {
-        refusal: refusal::NONE,
-        length: tally.length,
-        examined: tally.examined,
-    }
+    // No day after the last one that matched is gone over again.
+    let mut shortened = query;
+    shortened.last = tally.latest;
+    scan(shortened, true, list);
+    told(refusal::NONE, tally)
 }

@@ -1,0 +1,152 @@
+/* Times the archive's calls side by side with plain C in one run, and prints ratios. `bench once NAME` makes one call for callgrind; `bench stack` prints the deepest stack of
+   any call. */
+#include "../include/grahalaghava.h"
+#include "plain.h"
+#include <pthread.h>
+#include <stdio.h>
+#include <stdlib.h>
+#include <string.h>
+#include <time.h>
+
+enum { DAYS = 401600, ROOM = 4 * DAYS };
+static uint8_t list[ROOM], other[ROOM];
+static volatile uint64_t sink;
+
+static const uint32_t SPARSE = 3600, DENSE = 1296000;
+
+static double now(void) {
+    struct timespec t;
+    clock_gettime(CLOCK_MONOTONIC, &t);
+    return (double)t.tv_sec * 1e9 + (double)t.tv_nsec;
+}
+
+/* A search of the whole span on a Monday, with so many bytes of list. */
+static void ours(uint32_t width, size_t len) { sink += graha_search(0, DAYS - 1, 0, width, 0, list, len); }
+static void plain(uint32_t width, size_t len) { sink += plain_search(0, DAYS - 1, 0, width, 0, other, len).length; }
+static void every(uint32_t width, size_t len) { sink += plain_every_day(0, DAYS - 1, 0, width, 0, other, len).length; }
+
+typedef uint32_t (*number)(uint32_t);
+
+static void all_days(number f) {
+    uint64_t sum = 0;
+    for (uint32_t day = 0; day < DAYS; day++) sum += f(day);
+    sink += sum;
+}
+
+typedef struct {
+    const char *name;
+    void (*search)(uint32_t, size_t);
+    uint32_t width;
+    size_t len;
+    number call;
+} job;
+
+static void run(const job *j) {
+    if (j->search) j->search(j->width, j->len);
+    else all_days(j->call);
+}
+
+/* The least of many times: the machine's other work only adds. Both sides take turns, so that they meet the same machine. */
+static void pair(const char *what, job a, job b, double most) {
+    double best_a = 1e18, best_b = 1e18;
+    for (int round = 0; round < 60; round++) {
+        double t = now();
+        run(&a);
+        double u = now();
+        run(&b);
+        double v = now();
+        if (u - t < best_a) best_a = u - t;
+        if (v - u < best_b) best_b = v - u;
+    }
+    printf("%-46s %12.1f us %12.1f us %8.2f   %s %.1f\n", what, best_a / 1e3, best_b / 1e3, best_a / best_b, most > 0 ? "at most" : "at least 1 /",
+           most > 0 ? most : -most);
+}
+
+static job search_job(void (*f)(uint32_t, size_t), uint32_t width, size_t len) { return (job){"", f, width, len, NULL}; }
+static job call_job(number f) { return (job){"", NULL, 0, 0, f}; }
+
+static size_t needed(uint32_t width) { return 4 * (size_t)graha_search_length(0, DAYS - 1, 0, width, 0); }
+
+static void *nothing(void *unused) { return unused; }
+static void *search_all(void *unused) {
+    ours(SPARSE, ROOM);
+    ours(DENSE, needed(DENSE));
+    sink += graha_search_length(0, DAYS - 1, 0, SPARSE, 0) + graha_search_looked(0, DAYS - 1, 0, SPARSE, 0);
+    return unused;
+}
+static void *places(void *unused) {
+    sink += graha_mean_sun(7) + graha_mean_moon(7) + graha_moon_apogee(7) + graha_moon_node(7) + graha_mean_mars(7) + graha_mercury_anomaly(7) +
+            graha_mean_jupiter(7) + graha_venus_anomaly(7) + graha_mean_saturn(7) + graha_true_sun(7) + graha_true_moon(7) + graha_tithi(7) +
+            graha_nakshatra(7) + graha_yoga(7) + graha_karana(7);
+    return unused;
+}
+static void *calendar(void *unused) {
+    sink += graha_date_result(1612, 5, 14) + graha_date_day(1612, 5, 14) + graha_day_result(7) + graha_day_year(7) + graha_day_month(7) +
+            graha_day_of_month(7) + graha_day_cycle(7) + graha_day_within(7) + graha_day_weekday(7) + graha_pair_result(0, 7) + graha_pair_day(0, 7) +
+            graha_next_result(0, 7) + graha_next_cycle(0, 7) + graha_next_within(0, 7) + graha_saka_result(1534, 1, 14, 0) +
+            graha_saka_day(1534, 1, 14, 0);
+    return unused;
+}
+
+/* Bytes of stack that a thread with nothing else on its stack has touched. */
+static size_t depth(void *(*work)(void *)) {
+    enum { STACK = 1 << 20 };
+    static _Alignas(4096) uint8_t stack[STACK];
+    memset(stack, 0xA5, STACK);
+    pthread_attr_t attributes;
+    pthread_t thread;
+    pthread_attr_init(&attributes);
+    if (pthread_attr_setstack(&attributes, stack, STACK) || pthread_create(&thread, &attributes, work, NULL)) exit(1);
+    pthread_join(thread, NULL);
+    size_t low = 0;
+    while (low < STACK && stack[low] == 0xA5) low++;
+    return STACK - low;
+}
+
+int main(int count, char **word) {
+    if (count == 3 && !strcmp(word[1], "once")) {
+        if (!strcmp(word[2], "sparse")) ours(SPARSE, ROOM);
+        else if (!strcmp(word[2], "dense")) ours(DENSE, ROOM);
+        else if (!strcmp(word[2], "plain-sparse")) plain(SPARSE, ROOM);
+        else if (!strcmp(word[2], "plain-dense")) plain(DENSE, ROOM);
+        else return 2;
+        return 0;
+    }
+    if (count == 2 && !strcmp(word[1], "looked")) {
+        printf("%u %u\n", graha_search_looked(0, DAYS - 1, 0, SPARSE, 0), graha_search_looked(0, DAYS - 1, 0, DENSE, 0));
+        return 0;
+    }
+    if (count == 2 && !strcmp(word[1], "stack")) {
+        size_t base = depth(nothing), a = depth(search_all) - base, b = depth(places) - base, c = depth(calendar) - base;
+        printf("deepest stack: search %zu, places %zu, calendar %zu bytes (at most 2048)\n", a, b, c);
+        return 0;
+    }
+    printf("%-46s %15s %15s %8s   %s\n", "whole span, Mondays", "proved", "plain C", "ratio", "to reach");
+    pair("sparse search, an entry for each day", search_job(ours, SPARSE, ROOM), search_job(plain, SPARSE, ROOM), 1.1);
+    pair("sparse search, a list that just fits", search_job(ours, SPARSE, needed(SPARSE)), search_job(plain, SPARSE, ROOM), 2.0);
+    pair("dense search, an entry for each day", search_job(ours, DENSE, ROOM), search_job(plain, DENSE, ROOM), 1.1);
+    pair("dense search, a list that just fits", search_job(ours, DENSE, needed(DENSE)), search_job(plain, DENSE, ROOM), 2.0);
+    pair("sparse search, against a test of every day", search_job(ours, SPARSE, ROOM), search_job(every, SPARSE, ROOM), -50);
+    printf("%-46s %15s %15s %8s   %s\n", "each of 401,600 days", "proved", "plain C", "ratio", "to reach");
+    pair("mean Sun", call_job(graha_mean_sun), call_job(plain_mean_sun), 1.1);
+    pair("mean Moon", call_job(graha_mean_moon), call_job(plain_mean_moon), 1.1);
+    pair("Moon's node", call_job(graha_moon_node), call_job(plain_moon_node), 1.1);
+    pair("mean Mars", call_job(graha_mean_mars), call_job(plain_mean_mars), 1.1);
+    pair("cycle", call_job(graha_day_cycle), call_job(plain_cycle), 1.1);
+    pair("day within the cycle", call_job(graha_day_within), call_job(plain_within), 1.1);
+    pair("weekday", call_job(graha_day_weekday), call_job(plain_weekday), 1.1);
+    pair("true Sun", call_job(graha_true_sun), call_job(plain_true_sun), 1.1);
+    pair("true Moon", call_job(graha_true_moon), call_job(plain_true_moon), 1.1);
+    pair("tithi", call_job(graha_tithi), call_job(plain_tithi), 1.1);
+    pair("nakshatra", call_job(graha_nakshatra), call_job(plain_nakshatra), 1.1);
+    pair("yoga", call_job(graha_yoga), call_job(plain_yoga), 1.1);
+    pair("karana", call_job(graha_karana), call_job(plain_karana), 1.1);
+    size_t same = needed(SPARSE);
+    ours(SPARSE, ROOM);
+    plain(SPARSE, ROOM);
+    if (memcmp(list, other, same)) {
+        puts("the two searches differ");
+        return 1;
+    }
+    return 0;
+}

@@ -1,0 +1,102 @@
+#include "plain.h"
+
+#define CIRCLE 1296000u
+#define LAST 401599u
+
+static inline uint32_t mean(uint32_t day, uint32_t k, uint32_t d, uint64_t p, uint64_t q) {
+    uint32_t c = day / 4016, a = day % 4016;
+    return (uint32_t)((k + c * (CIRCLE - d) + a * p / q) % CIRCLE);
+}
+
+static inline uint32_t sun(uint32_t day) { return mean(day, 1258860, 6551, 124186, 35); }
+static inline uint32_t moon(uint32_t day) { return mean(day, 1256760, 13571, 5644749, 119); }
+static inline uint32_t apogee(uint32_t day) { return mean(day, 603180, 981900, 2806, 7); }
+
+static inline uint32_t past(uint32_t a, uint32_t b) { return (a + CIRCLE - b) % CIRCLE; }
+
+static inline uint32_t corrected(uint32_t at, uint32_t apo, uint64_t scale, uint64_t divisor) {
+    uint32_t x = past(apo, at);
+    uint64_t s = x <= 324000 ? x : x <= 648000 ? 648000 - x : x <= 972000 ? x - 648000 : CIRCLE - x;
+    uint64_t q = s * (648000 - s);
+    uint32_t size = (uint32_t)(scale * q / (divisor - q));
+    return x <= 648000 ? (at + size) % CIRCLE : (at + CIRCLE - size) % CIRCLE;
+}
+
+static inline uint32_t true_sun(uint32_t day) { return corrected(sun(day), 280800, 32400, 538526880000u); }
+static inline uint32_t true_moon(uint32_t day) { return corrected(moon(day), apogee(day), 72000, 522547200000u); }
+
+uint32_t plain_mean_sun(uint32_t day) { return day > LAST ? 0 : sun(day); }
+uint32_t plain_mean_moon(uint32_t day) { return day > LAST ? 0 : moon(day); }
+uint32_t plain_moon_node(uint32_t day) { return day > LAST ? 0 : mean(day, 99480, 766200, 73861124, 57); }
+uint32_t plain_mean_mars(uint32_t day) { return day > LAST ? 0 : mean(day, 1105680, 199920, 2616600, 1387); }
+uint32_t plain_cycle(uint32_t day) { return day > LAST ? 0 : day / 4016; }
+uint32_t plain_within(uint32_t day) { return day > LAST ? 0 : day % 4016; }
+uint32_t plain_weekday(uint32_t day) { return day > LAST ? 0 : day % 7; }
+uint32_t plain_true_sun(uint32_t day) { return day > LAST ? 0 : true_sun(day); }
+uint32_t plain_true_moon(uint32_t day) { return day > LAST ? 0 : true_moon(day); }
+uint32_t plain_tithi(uint32_t day) { return day > LAST ? 0 : past(true_moon(day), true_sun(day)) / 43200; }
+uint32_t plain_nakshatra(uint32_t day) { return day > LAST ? 0 : true_moon(day) / 48000; }
+uint32_t plain_yoga(uint32_t day) { return day > LAST ? 0 : (true_sun(day) + true_moon(day)) % CIRCLE / 48000; }
+uint32_t plain_karana(uint32_t day) {
+    if (day > LAST) return 0;
+    uint32_t h = past(true_moon(day), true_sun(day)) / 21600;
+    return h == 0 ? 11 : h <= 56 ? (h - 1) % 7 + 1 : h - 49;
+}
+
+static uint32_t refusal(uint32_t first, uint32_t last, uint32_t start, uint32_t width, uint32_t weekday) {
+    if (first > LAST || last > LAST) return 2;
+    if (last < first) return 5;
+    if (start >= CIRCLE || width < 1 || width > CIRCLE || weekday > 6) return 6;
+    return 0;
+}
+
+static inline void put(uint8_t *list, size_t at, uint32_t day) {
+    list[at] = (uint8_t)day;
+    list[at + 1] = (uint8_t)(day >> 8);
+    list[at + 2] = (uint8_t)(day >> 16);
+    list[at + 3] = (uint8_t)(day >> 24);
+}
+
+plain_found plain_search(uint32_t first, uint32_t last, uint32_t start, uint32_t width, uint32_t weekday, uint8_t *list, size_t len) {
+    plain_found found = {refusal(first, last, start, width, weekday), 0, 0};
+    if (found.refusal) return found;
+    size_t at = 0;
+    for (uint32_t day = first; day <= last;) {
+        found.looked++;
+        uint32_t off = past(sun(day), start);
+        if (off < width) {
+            if (day % 7 == weekday) {
+                if (at + 4 > len) {
+                    found.refusal = 7;
+                    return found;
+                }
+                put(list, at, day);
+                at += 4;
+                found.length++;
+            }
+            day++;
+        } else {
+            day += (CIRCLE - off + 3548) / 3549;
+        }
+    }
+    return found;
+}
+
+plain_found plain_every_day(uint32_t first, uint32_t last, uint32_t start, uint32_t width, uint32_t weekday, uint8_t *list, size_t len) {
+    plain_found found = {refusal(first, last, start, width, weekday), 0, 0};
+    if (found.refusal) return found;
+    size_t at = 0;
+    for (uint32_t day = first; day <= last; day++) {
+        found.looked++;
+        if (past(sun(day), start) < width && day % 7 == weekday) {
+            if (at + 4 > len) {
+                found.refusal = 7;
+                return found;
+            }
+            put(list, at, day);
+            at += 4;
+            found.length++;
+        }
+    }
+    return found;
+}

@@ -1,0 +1,30 @@
+/* The same reckoning in plain C, as a good programmer writes it: the yardstick of the benchmark. It checks its input as the host's calls do. */
+#ifndef PLAIN_H
+#define PLAIN_H
+#include <stddef.h>
+#include <stdint.h>
+
+uint32_t plain_mean_sun(uint32_t day);
+uint32_t plain_mean_moon(uint32_t day);
+uint32_t plain_moon_node(uint32_t day);
+uint32_t plain_mean_mars(uint32_t day);
+uint32_t plain_cycle(uint32_t day);
+uint32_t plain_within(uint32_t day);
+uint32_t plain_weekday(uint32_t day);
+uint32_t plain_true_sun(uint32_t day);
+uint32_t plain_true_moon(uint32_t day);
+uint32_t plain_tithi(uint32_t day);
+uint32_t plain_nakshatra(uint32_t day);
+uint32_t plain_yoga(uint32_t day);
+uint32_t plain_karana(uint32_t day);
+
+typedef struct {
+    uint32_t refusal, length, looked;
+} plain_found;
+
+/* One pass over the walk; the list must have an entry for each day of the span. */
+plain_found plain_search(uint32_t first, uint32_t last, uint32_t start, uint32_t width, uint32_t weekday, uint8_t *list, size_t len);
+
+/* Tests every day of the span. */
+plain_found plain_every_day(uint32_t first, uint32_t last, uint32_t start, uint32_t width, uint32_t weekday, uint8_t *list, size_t len);
+#endif

@@ -1,0 +1,19 @@
+-- `graha_day_weekday` meets its contract: a number of the pair is the number of the day.
+use borrow.Author.Needs.{needs}
+use mathlib.Core.Path.{_∙_}
+use Rattle.host.specs.Calls.{weekdayAt}
+use Rattle.host.proofs.OnNumbers.{on-number, weekday-on}
+use Rattle.host.proofs.positions.graha_day_weekday.Statement.{statement}
+use Rattle.host.proofs.positions.graha_day_weekday.Tie as tie
+
+pair-requires : tie.Need-pair-requires
+pair-requires c κs = search needs
+
+weekday-requires : tie.Need-weekday-requires
+weekday-requires c κs = search needs
+
+returns : tie.Need-returns
+returns c = on-number weekdayAt _ (c .before .pair .ensures) (c .weekday .ensures ∙ weekday-on _)
+
+pub graha-day-weekday-spec : {M : Type 1} → statement M
+graha-day-weekday-spec = tie.close (tie.spec pair-requires weekday-requires returns)

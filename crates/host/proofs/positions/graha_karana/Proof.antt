@@ -1,0 +1,18 @@
+-- `graha_karana` meets its contract: a number of the pair is the number of the day.
+use borrow.Author.Needs.{needs}
+use Rattle.panchanga.specs.OnDays.{karanaAt}
+use Rattle.host.proofs.OnNumbers.{on-number}
+use Rattle.host.proofs.positions.graha_karana.Statement.{statement}
+use Rattle.host.proofs.positions.graha_karana.Tie as tie
+
+pair-requires : tie.Need-pair-requires
+pair-requires c κs = search needs
+
+karana-requires : tie.Need-karana-requires
+karana-requires c κs = search needs
+
+returns : tie.Need-returns
+returns c = on-number karanaAt _ (c .before .pair .ensures) (c .karana .ensures)
+
+pub graha-karana-spec : {M : Type 1} → statement M
+graha-karana-spec = tie.close (tie.spec pair-requires karana-requires returns)

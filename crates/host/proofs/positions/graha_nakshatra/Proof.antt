@@ -1,0 +1,18 @@
+-- `graha_nakshatra` meets its contract: a number of the pair is the number of the day.
+use borrow.Author.Needs.{needs}
+use Rattle.panchanga.specs.OnDays.{nakshatraAt}
+use Rattle.host.proofs.OnNumbers.{on-number}
+use Rattle.host.proofs.positions.graha_nakshatra.Statement.{statement}
+use Rattle.host.proofs.positions.graha_nakshatra.Tie as tie
+
+pair-requires : tie.Need-pair-requires
+pair-requires c κs = search needs
+
+nakshatra-requires : tie.Need-nakshatra-requires
+nakshatra-requires c κs = search needs
+
+returns : tie.Need-returns
+returns c = on-number nakshatraAt _ (c .before .pair .ensures) (c .nakshatra .ensures)
+
+pub graha-nakshatra-spec : {M : Type 1} → statement M
+graha-nakshatra-spec = tie.close (tie.spec pair-requires nakshatra-requires returns)

@@ -1,0 +1,18 @@
+-- `graha_tithi` meets its contract: a number of the pair is the number of the day.
+use borrow.Author.Needs.{needs}
+use Rattle.panchanga.specs.OnDays.{tithiAt}
+use Rattle.host.proofs.OnNumbers.{on-number}
+use Rattle.host.proofs.positions.graha_tithi.Statement.{statement}
+use Rattle.host.proofs.positions.graha_tithi.Tie as tie
+
+pair-requires : tie.Need-pair-requires
+pair-requires c κs = search needs
+
+tithi-requires : tie.Need-tithi-requires
+tithi-requires c κs = search needs
+
+returns : tie.Need-returns
+returns c = on-number tithiAt _ (c .before .pair .ensures) (c .tithi .ensures)
+
+pub graha-tithi-spec : {M : Type 1} → statement M
+graha-tithi-spec = tie.close (tie.spec pair-requires tithi-requires returns)

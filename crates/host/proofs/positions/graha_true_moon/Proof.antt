@@ -1,0 +1,18 @@
+-- `graha_true_moon` meets its contract: a number of the pair is the number of the day.
+use borrow.Author.Needs.{needs}
+use Rattle.panchanga.specs.OnDays.{trueMoonAt}
+use Rattle.host.proofs.OnNumbers.{on-number}
+use Rattle.host.proofs.positions.graha_true_moon.Statement.{statement}
+use Rattle.host.proofs.positions.graha_true_moon.Tie as tie
+
+pair-requires : tie.Need-pair-requires
+pair-requires c κs = search needs
+
+true-moon-requires : tie.Need-true-moon-requires
+true-moon-requires c κs = search needs
+
+returns : tie.Need-returns
+returns c = on-number trueMoonAt _ (c .before .pair .ensures) (c .true-moon .ensures)
+
+pub graha-true-moon-spec : {M : Type 1} → statement M
+graha-true-moon-spec = tie.close (tie.spec pair-requires true-moon-requires returns)

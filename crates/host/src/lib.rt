@@ -1,0 +1,4 @@
+// The host program's calls: C functions on plain numbers and byte slices, each number of an answer by a call of its own.
+mod calendar;
+mod positions;
+mod searches;

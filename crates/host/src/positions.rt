@@ -1,0 +1,138 @@
+// What a day number gives: the weekday, mean and true longitudes in seconds of arc, and the panchanga elements. 0 where there is no such day.
+use days::Day;
+use longitudes::Body;
+ghost use mathlib.Core.Path.{_≡_};
+ghost use Rattle.days.specs.Days.{pairAt};
+ghost use Rattle.longitudes.specs.Longitudes.{longitudeAt};
+ghost use Rattle.longitudes.specs.Answers.{bodyNumber};
+ghost use Rattle.panchanga.specs.OnDays.{trueSunAt, trueMoonAt, tithiAt, nakshatraAt, yogaAt, karanaAt};
+ghost use Rattle.host.specs.Calls.{onNumber, weekdayAt};
+
+// Past the last day it is out of range, and whatever takes it refuses it.
+fn pair(number: u32) -> Day
+    ensures { λ r. ⌜ r ≡ pairAt number ⌝ }
+{
+    Day {
+        cycle: number / Day::CYCLE_DAYS,
+        within: number % Day::CYCLE_DAYS,
+    }
+}
+
+// 0 Monday to 6 Sunday.
+#[no_mangle]
+pub extern "C" fn graha_day_weekday(day: u32) -> u32
+    ensures { λ r. ⌜ r ≡ onNumber weekdayAt day ⌝ }
+{
+    pair(day).weekday().number
+}
+
+fn mean_longitude(body: Body, day: u32) -> u32
+    ensures { λ r. ⌜ r ≡ onNumber (longitudeAt (bodyNumber body)) day ⌝ }
+{
+    longitudes::mean_longitude(body, pair(day)).number
+}
+
+#[no_mangle]
+pub extern "C" fn graha_mean_sun(day: u32) -> u32
+    ensures { λ r. ⌜ r ≡ onNumber (longitudeAt 0) day ⌝ }
+{
+    mean_longitude(Body::Sun, day)
+}
+
+#[no_mangle]
+pub extern "C" fn graha_mean_moon(day: u32) -> u32
+    ensures { λ r. ⌜ r ≡ onNumber (longitudeAt 1) day ⌝ }
+{
+    mean_longitude(Body::Moon, day)
+}
+
+#[no_mangle]
+pub extern "C" fn graha_moon_apogee(day: u32) -> u32
+    ensures { λ r. ⌜ r ≡ onNumber (longitudeAt 2) day ⌝ }
+{
+    mean_longitude(Body::MoonApogee, day)
+}
+
+#[no_mangle]
+pub extern "C" fn graha_moon_node(day: u32) -> u32
+    ensures { λ r. ⌜ r ≡ onNumber (longitudeAt 3) day ⌝ }
+{
+    mean_longitude(Body::MoonNode, day)
+}
+
+#[no_mangle]
+pub extern "C" fn graha_mean_mars(day: u32) -> u32
+    ensures { λ r. ⌜ r ≡ onNumber (longitudeAt 4) day ⌝ }
+{
+    mean_longitude(Body::Mars, day)
+}
+
+#[no_mangle]
+pub extern "C" fn graha_mercury_anomaly(day: u32) -> u32
+    ensures { λ r. ⌜ r ≡ onNumber (longitudeAt 5) day ⌝ }
+{
+    mean_longitude(Body::MercuryAnomaly, day)
+}
+
+#[no_mangle]
+pub extern "C" fn graha_mean_jupiter(day: u32) -> u32
+    ensures { λ r. ⌜ r ≡ onNumber (longitudeAt 6) day ⌝ }
+{
+    mean_longitude(Body::Jupiter, day)
+}
+
+#[no_mangle]
+pub extern "C" fn graha_venus_anomaly(day: u32) -> u32
+    ensures { λ r. ⌜ r ≡ onNumber (longitudeAt 7) day ⌝ }
+{
+    mean_longitude(Body::VenusAnomaly, day)
+}
+
+#[no_mangle]
+pub extern "C" fn graha_mean_saturn(day: u32) -> u32
+    ensures { λ r. ⌜ r ≡ onNumber (longitudeAt 8) day ⌝ }
+{
+    mean_longitude(Body::Saturn, day)
+}
+
+#[no_mangle]
+pub extern "C" fn graha_true_sun(day: u32) -> u32
+    ensures { λ r. ⌜ r ≡ onNumber trueSunAt day ⌝ }
+{
+    panchanga::true_sun(pair(day)).number
+}
+
+#[no_mangle]
+pub extern "C" fn graha_true_moon(day: u32) -> u32
+    ensures { λ r. ⌜ r ≡ onNumber trueMoonAt day ⌝ }
+{
+    panchanga::true_moon(pair(day)).number
+}
+
+#[no_mangle]
+pub extern "C" fn graha_tithi(day: u32) -> u32
+    ensures { λ r. ⌜ r ≡ onNumber tithiAt day ⌝ }
+{
+    panchanga::tithi(pair(day)).number
+}
+
+#[no_mangle]
+pub extern "C" fn graha_nakshatra(day: u32) -> u32
+    ensures { λ r. ⌜ r ≡ onNumber nakshatraAt day ⌝ }
+{
+    panchanga::nakshatra(pair(day)).number
+}
+
+#[no_mangle]
+pub extern "C" fn graha_yoga(day: u32) -> u32
+    ensures { λ r. ⌜ r ≡ onNumber yogaAt day ⌝ }
+{
+    panchanga::yoga(pair(day)).number
+}
+
+#[no_mangle]
+pub extern "C" fn graha_karana(day: u32) -> u32
+    ensures { λ r. ⌜ r ≡ onNumber karanaAt day ⌝ }
+{
+    panchanga::karana(pair(day)).number
+}

@@ -1,0 +1,109 @@
+// The host's search, for a Sun arc and a weekday, both always. The walk over the days is the library's.
+use query::Arc;
+use query::Asked;
+use query::Query;
+use search::Found;
+ghost use mathlib.Core.Path.{_≡_};
+ghost use Prim.Native.Nat.{_≤_};
+ghost use lib.ListN.{length};
+ghost use Rattle.search.specs.Days.{matchingDays, visitedDays, visitLimit};
+ghost use Rattle.search.specs.Search.{capacity, resultOf, told, listAfter};
+ghost use Rattle.host.specs.HostQuery.{hostQuery, HostMeasured};
+
+const NOT_ASKED: Asked = Asked {
+    given: false,
+    value: 0,
+};
+
+const NO_ARC: Arc = Arc {
+    given: false,
+    start: 0,
+    width: 0,
+};
+
+fn query_of(first: u32, last: u32, start: u32, width: u32, weekday: u32) -> Query
+    ensures { λ r. ⌜ r ≡ hostQuery first last start width weekday ⌝ }
+{
+    let sun = Arc {
+        given: true,
+        start,
+        width,
+    };
+    let weekday = Asked {
+        given: true,
+        value: weekday,
+    };
+    let arcs = [
+        sun,
+        NO_ARC,
+        NO_ARC,
+        NO_ARC,
+        NO_ARC,
+        NO_ARC,
+        NO_ARC,
+        NO_ARC,
+        NO_ARC,
+    ];
+    Query {
+        first,
+        last,
+        weekday,
+        tithi: NOT_ASKED,
+        nakshatra: NOT_ASKED,
+        yoga: NOT_ASKED,
+        arcs,
+    }
+}
+
+// The refusal, or 0 with the matching days written to the list: four bytes a day, low byte first.
+#[no_mangle]
+pub extern "C" fn graha_search(
+    first: u32,
+    last: u32,
+    start: u32,
+    width: u32,
+    weekday: u32,
+    list: &mut [u8],
+) -> u32
+    ensures { λ r. ⌜ r ≡ resultOf (hostQuery first last start width weekday) (capacity (now (list .entry))) ⌝ }
+    ensures { λ _. ⌜ now (list .exit) ≡ listAfter (hostQuery first last start width weekday) (now (list .entry)) ⌝ }
+{
+    let query = query_of(first, last, start, width, weekday);
+    search::search(query, list).refusal
+}
+
+// The two numbers that a search tells, whatever list it is lent.
+fn measured(first: u32, last: u32, start: u32, width: u32, weekday: u32) -> Found
+    ensures { λ r. ⌜ HostMeasured (hostQuery first last start width weekday) r ⌝ }
+{
+    search::measure(query_of(first, last, start, width, weekday))
+}
+
+// How many days match, whether or not they fit in a list.
+#[no_mangle]
+pub extern "C" fn graha_search_length(
+    first: u32,
+    last: u32,
+    start: u32,
+    width: u32,
+    weekday: u32,
+) -> u32
+    ensures { λ r. ⌜ r ≡ told (hostQuery first last start width weekday) (length (matchingDays (hostQuery first last start width weekday))) ⌝ }
+{
+    measured(first, last, start, width, weekday).length
+}
+
+// How many days the search examines: paper 01's days looked at.
+#[no_mangle]
+pub extern "C" fn graha_search_looked(
+    first: u32,
+    last: u32,
+    start: u32,
+    width: u32,
+    weekday: u32,
+) -> u32
+    ensures { λ r. ⌜ r ≡ told (hostQuery first last start width weekday) (length (visitedDays (hostQuery first last start width weekday))) ⌝ }
+    ensures { λ r. ⌜ r ≤ visitLimit (hostQuery first last start width weekday) ⌝ }
+{
+    measured(first, last, start, width, weekday).examined
+}
