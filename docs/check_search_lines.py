@@ -2,9 +2,8 @@
 """Holds docs/search.md to the source: each `file:line` that it names must hold the code quoted after it, and where it says that a file
 has a text so many times, or no such text, that must be so.
 
-  python3 docs/check_search_lines.py
-
-Prints a line for each thing that does not hold and exits with 1, or one line with the count of those that do."""
+  python3 docs/check_search_lines.py            prints a line for each thing that does not hold and exits with 1, or one line with the count of those that do
+  python3 docs/check_search_lines.py --renumber first writes the new number where the code quoted stands at one other line"""
 import pathlib
 import re
 import sys
@@ -20,11 +19,21 @@ def source(name):
     return path.read_text(encoding="utf-8").splitlines() if path.is_file() else []
 
 
+def stands(name, code):
+    """The numbers of the file's lines that are the code."""
+    return [str(at) for at, line in enumerate(source(name), 1) if line.strip() == code]
+
+
+def renumbered(found):
+    name, number, code = found.groups()
+    now = stands(name, code)
+    return f"`{name}:{now[0] if len(now) == 1 else number}` | `{code}`"
+
+
 def faults(page):
     for name, number, code in LINE.findall(page):
-        lines = source(name)
-        if int(number) > len(lines) or lines[int(number) - 1].strip() != code:
-            now = [str(at) for at, line in enumerate(lines, 1) if line.strip() == code]
+        now = stands(name, code)
+        if number not in now:
             yield f"{name}:{number} is not `{code}`; " + (f"it stands at line {', '.join(now)}" if now else "no line of the file is")
     for name, times, what in COUNT.findall(page):
         lines = source(name)
@@ -34,6 +43,9 @@ def faults(page):
 
 
 page = PAGE.read_text(encoding="utf-8")
+if "--renumber" in sys.argv[1:]:
+    page = LINE.sub(renumbered, page)
+    PAGE.write_text(page, encoding="utf-8")
 named = len(LINE.findall(page)) + len(COUNT.findall(page))
 found = list(faults(page)) if named else ["it names no line"]
 for fault in found:
