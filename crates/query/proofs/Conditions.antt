@@ -8,14 +8,13 @@ use native.Mathlib.Omega.{arith}
 use lib.Dec.{lit<}
 use borrow.Author.Tests.{not-true}
 use Rattle.days.specs.declared.Day.{Day}
-use Rattle.days.specs.Days.{inRange, pairAt, weekdayOn}
+use Rattle.days.specs.Days.{inRange}
 use Rattle.longitudes.specs.Longitudes.{longitudeAt}
 use Rattle.panchanga.specs.declared.Panchanga.{Panchanga}
 use Rattle.panchanga.specs.OnDays.{tithiAt, nakshatraAt, yogaAt, panchangaOf}
 use Rattle.query.specs.declared.Arc.{Arc}
 use Rattle.query.specs.declared.Query.{Query}
 use Rattle.query.specs.Conditions.{eachBody, meets, within, arcAt, arcInRange, arcsInRange, arcsMet, elementsMet}
-use Rattle.query.specs.Query.{sunInArc, matches}
 
 pub each-true : (p : ℕ → Bool) → ((k : ℕ) → k < 9 → p k ≡ true) → eachBody p ≡ true
 each-true p h =
@@ -99,31 +98,15 @@ module _ (q : Query) (d : Day) where
   unfolding elementsMet
   yoga-decides found e f g = g ∙ rw (e, f)
 
--- a day's conditions, with the Sun's arc tested apart from the others
-module _ (q : Query) (n : ℕ) where
-  pub weekday-not-met : meets (q .weekday) (weekdayOn n) ≡ false → (sunInArc q n && false) ≡ matches q n
-  unfolding matches
-  weekday-not-met e = and-false (sunInArc q n) ∙ sym (ap (λ (b : Bool). arcsMet (q .arcs) (pairAt n) && (b && elementsMet q (pairAt n))) e ∙ and-false (arcsMet (q .arcs) (pairAt n)))
+-- the dear conditions, with the Sun's arc tested apart
+module _ (q : Query) (d : Day) (found : Bool) (e : (within (arcAt (q .arcs) 0) (longitudeAt 0 d) && found) ≡ arcsMet (q .arcs) d) where
+  abbrev sun : Bool
+  sun = within (arcAt (q .arcs) 0) (longitudeAt 0 d)
 
-  -- what is found of the other arcs, on the day's pair
-  others : (found : Bool) (d : Day) → d ≡ pairAt n → (within (arcAt (q .arcs) 0) (longitudeAt 0 d) && found) ≡ arcsMet (q .arcs) d → (sunInArc q n && found) ≡ arcsMet (q .arcs) (pairAt n)
-  unfolding sunInArc
-  others found d h e = rw h at e
+  pub arcs-not-met : found ≡ false → (sun && false) ≡ (arcsMet (q .arcs) d && elementsMet q d)
+  arcs-not-met f = and-false sun ∙ sym (ap (λ (b : Bool). b && elementsMet q d) (sym e ∙ ap (λ (b : Bool). sun && b) f ∙ and-false sun))
 
-  pub arcs-not-met : (found : Bool) (d : Day) → d ≡ pairAt n → (within (arcAt (q .arcs) 0) (longitudeAt 0 d) && found) ≡ arcsMet (q .arcs) d → found ≡ false → (sunInArc q n && false) ≡ matches q n
-  unfolding matches
-  arcs-not-met found d h e f =
-      and-false (sunInArc q n)
-      ∙ sym (ap (λ (b : Bool). b && (meets (q .weekday) (weekdayOn n) && elementsMet q (pairAt n))) (sym (others found d h e) ∙ ap (λ (b : Bool). sunInArc q n && b) f ∙ and-false (sunInArc q n)))
-
-  pub elements-decide :
-      (found elements : Bool) (d : Day) →
-      d ≡ pairAt n →
-      meets (q .weekday) (weekdayOn n) ≡ true →
-      (within (arcAt (q .arcs) 0) (longitudeAt 0 d) && found) ≡ arcsMet (q .arcs) d →
-      found ≡ true →
-      elements ≡ elementsMet q d →
-      (sunInArc q n && elements) ≡ matches q n
-  unfolding matches
-  elements-decide found elements d h w e f g =
-      rw (g, h, w, ← others found d h e, f) (sym (ap (λ (b : Bool). b && elementsMet q (pairAt n)) (and-true (sunInArc q n))))
+  pub elements-decide : (elements : Bool) → found ≡ true → elements ≡ elementsMet q d → (sun && elements) ≡ (arcsMet (q .arcs) d && elementsMet q d)
+  elements-decide elements f g =
+      ap (λ (b : Bool). sun && b) g
+      ∙ ap (λ (b : Bool). b && elementsMet q d) (sym (and-true sun) ∙ ap (λ (b : Bool). sun && b) (sym f) ∙ e)

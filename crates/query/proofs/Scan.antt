@@ -1,16 +1,16 @@
--- What is told of a day, by the outcomes of the tests: no such day, the Sun outside its arc, the Sun inside it.
+-- What is told of a day, by the outcomes of the tests: no such day, the Sun outside its arc, inside it on another weekday, inside it on the weekday asked for.
 -- Assumes nothing.
 use mathlib.Core.Path.{_≡_, sym, _∙_}
-use mathlib.Core.Bool.{Bool, true, false, _&&_}
+use mathlib.Core.Bool.{Bool, true, false, _&&_, and-false}
 use Prim.Native.Nat.{ℕ, _+_, _/_, _≤_, _<_}
 use lib.Dec.{leb}
-use borrow.Author.Tests.{le-leb, lt-leb}
+use borrow.Author.Tests.{le-leb, lt-leb, lt-ltb, le-ltb}
 use Rattle.days.specs.declared.Day.{Day}
-use Rattle.days.specs.Days.{lastDay, pairAt}
+use Rattle.days.specs.Days.{lastDay, pairAt, weekdayOn}
 use Rattle.longitudes.specs.Longitudes.{difference, longitudeAt}
 use Rattle.query.specs.declared.Query.{Query}
 use Rattle.query.specs.declared.Examined.{Examined}
-use Rattle.query.specs.Conditions.{within, arcAt, arcsMet}
+use Rattle.query.specs.Conditions.{meets, within, arcAt, arcsMet, elementsMet}
 use Rattle.query.specs.Query.{sunInArc, matches, nextDay, examinedOf}
 
 -- a day outside the Sun's arc does not match
@@ -30,15 +30,36 @@ module _ (q : Query) (n : ℕ) where
   unfolding examinedOf
   untold h = rw (lt-leb n lastDay h)
 
-  module _ (d : Day) (h : d ≡ pairAt n) (low : n ≤ lastDay) (in-arc : Bool) (e : in-arc ≡ within (arcAt (q .arcs) 0) (longitudeAt 0 d)) where
-    sun-is : sunInArc q n ≡ in-arc
+  -- from what is known of the day's pair
+  module _ (d : Day) (h : d ≡ pairAt n) (low : n ≤ lastDay) where
+    sun-in : within (arcAt (q .arcs) 0) (longitudeAt 0 d) ≡ sunInArc q n
     unfolding sunInArc
-    sun-is = sym (rw h at e)
+    sun-in = rw h
 
-    pub outside : (ahead : ℕ) → in-arc ≡ false → ahead ≡ difference (arcAt (q .arcs) 0 .start) (longitudeAt 0 d) → told 0 false (n + (ahead + 3548) / 3549) ≡ examinedOf q n
+    pub outside : (past ahead : ℕ) → arcAt (q .arcs) 0 .given ≡ true → past ≡ difference (longitudeAt 0 d) (arcAt (q .arcs) 0 .start) → arcAt (q .arcs) 0 .width ≤ past → ahead ≡ difference (arcAt (q .arcs) 0 .start) (longitudeAt 0 d) → told 0 false (n + (ahead + 3548) / 3549) ≡ examinedOf q n
     unfolding examinedOf nextDay
-    outside ahead f a = rw (le-leb n lastDay low, outside-unmatched q n (sun-is ∙ f), sun-is ∙ f, a, h)
+    outside past ahead g p w a =
+        let f : sunInArc q n ≡ false = sym sun-in ∙ (unfold within in rw (g, ← p, le-ltb _ _ w)) in
+        rw (le-leb n lastDay low, outside-unmatched q n f, f, a, h)
 
-    pub inside : (found : Bool) → in-arc ≡ true → (sunInArc q n && found) ≡ matches q n → told 0 found (n + 1) ≡ examinedOf q n
-    unfolding examinedOf nextDay
-    inside found f m = rw (le-leb n lastDay low, ← m, sun-is ∙ f)
+    -- inside: no arc, or one that the Sun is in
+    pub no-arc : arcAt (q .arcs) 0 .given ≡ false → within (arcAt (q .arcs) 0) (longitudeAt 0 d) ≡ true
+    unfolding within
+    no-arc g = rw g
+
+    pub in-arc : (past : ℕ) → arcAt (q .arcs) 0 .given ≡ true → past ≡ difference (longitudeAt 0 d) (arcAt (q .arcs) 0 .start) → past < arcAt (q .arcs) 0 .width → within (arcAt (q .arcs) 0) (longitudeAt 0 d) ≡ true
+    unfolding within
+    in-arc past g p w = rw (g, ← p, lt-ltb _ _ w)
+
+    module _ (i : within (arcAt (q .arcs) 0) (longitudeAt 0 d) ≡ true) where
+      pub other-weekday : meets (q .weekday) (weekdayOn n) ≡ false → told 0 false (n + 1) ≡ examinedOf q n
+      unfolding examinedOf nextDay matches
+      other-weekday w = rw (le-leb n lastDay low, sym sun-in ∙ i, w, and-false (arcsMet (q .arcs) (pairAt n)))
+
+      pub same-weekday :
+          (found : Bool) →
+          meets (q .weekday) (weekdayOn n) ≡ true →
+          (within (arcAt (q .arcs) 0) (longitudeAt 0 d) && found) ≡ (arcsMet (q .arcs) d && elementsMet q d) →
+          told 0 found (n + 1) ≡ examinedOf q n
+      unfolding examinedOf nextDay matches
+      same-weekday found w e = rw (le-leb n lastDay low, sym sun-in ∙ i, w, ← h, ← e, i)

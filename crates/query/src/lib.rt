@@ -248,15 +248,11 @@ fn weekday_met(asked: Asked, number: u32) -> bool
     }
 }
 
-// All conditions but the Sun's arc, the cheap ones first.
-fn others_met(query: Query, number: u32, day: Day) -> bool
-    requires { ⌜ (inRange day ≡ true) × (day ≡ pairAt number) ⌝ }
-    ensures { λ r. ⌜ (sunInArc query number && r) ≡ matchesOn query number ⌝ }
+// The conditions that are dear to test: the other bodies' arcs, then the elements.
+fn others_met(query: Query, day: Day) -> bool
+    requires { ⌜ inRange day ≡ true ⌝ }
+    ensures { λ r. ⌜ (within (arcAt (query .arcs) 0) (longitudeAt 0 day) && r) ≡ (arcsMet (query .arcs) day && elementsMet query day) ⌝ }
 {
-    let weekday = query.weekday;
-    if !weekday_met(weekday, number) {
-        return false;
-    }
     let arcs = query.arcs;
     if !other_arcs_met(arcs, day) {
         return false;
@@ -264,39 +260,18 @@ fn others_met(query: Query, number: u32, day: Day) -> bool
     elements_met(query, day)
 }
 
-// Whether the mean Sun is in its arc; from outside, the seconds ahead to the arc's start.
-struct SunPlace {
-    inside: bool,
-    ahead: u32,
-}
-
-fn sun_place(arc: Arc, day: Day) -> SunPlace
-    requires { ⌜ inRange day ≡ true ⌝ }
-    ensures { λ r. ⌜ r .inside ≡ within arc (longitudeAt 0 day) ⌝ }
-    ensures { λ r. ⌜ (r .inside ≡ false → r .ahead ≡ difference (arc .start) (longitudeAt 0 day)) ⌝ }
+fn told(matches: bool, next: u32) -> Examined
+    ensures { λ r. ⌜ r ≡ record { refusal = 0; matches = matches; next = next } ⌝ }
 {
-    if !arc.given {
-        return SunPlace {
-            inside: true,
-            ahead: 0,
-        };
-    }
-    let sun = longitudes::mean_longitude(Body::Sun, day);
-    let past = longitudes::difference(sun.number, arc.start);
-    if past < arc.width {
-        return SunPlace {
-            inside: true,
-            ahead: 0,
-        };
-    }
-    let ahead = longitudes::difference(arc.start, sun.number);
-    SunPlace {
-        inside: false,
-        ahead,
+    Examined {
+        refusal: refusal::NONE,
+        matches,
+        next,
     }
 }
 
-// Paper 01's look: the only way to longitudes and conditions. It reckons them for the day given and for no other.
+// Paper 01's look: the only way to longitudes and conditions. It reckons them for the day given and for no other. The Sun's arc comes first, since it decides the next
+// day, then the weekday. (The calls of `others_met` are two, so that the compiler leaves it out of the scan's loop: most days do not come to it.)
 pub fn examine(query: Query, day: u32) -> Examined
     ensures { λ r. ⌜ r ≡ examinedOf query day ⌝ }
 {
@@ -308,21 +283,23 @@ pub fn examine(query: Query, day: u32) -> Examined
             next: 0,
         };
     }
+    let weekday = query.weekday;
+    let on_weekday = weekday_met(weekday, day);
     let arc = query.arcs[0];
-    let sun = sun_place(arc, pair.day);
-    if !sun.inside {
-        let next = day + (sun.ahead + (SUN_ADVANCE - 1)) / SUN_ADVANCE;
-        return Examined {
-            refusal: refusal::NONE,
-            matches: false,
-            next,
-        };
+    if !arc.given {
+        if !on_weekday {
+            return told(false, day + 1);
+        }
+        return told(others_met(query, pair.day), day + 1);
     }
-    let matches = others_met(query, day, pair.day);
-    let next = day + 1;
-    Examined {
-        refusal: refusal::NONE,
-        matches,
-        next,
+    let sun = longitudes::mean_longitude(Body::Sun, pair.day);
+    let past = longitudes::difference(sun.number, arc.start);
+    if past < arc.width {
+        if !on_weekday {
+            return told(false, day + 1);
+        }
+        return told(others_met(query, pair.day), day + 1);
     }
+    let ahead = longitudes::difference(arc.start, sun.number);
+    told(false, day + (ahead + (SUN_ADVANCE - 1)) / SUN_ADVANCE)
 }
