@@ -3,7 +3,7 @@
 has a text so many times, or no such text, that must be so.
 
   python3 docs/check_search_lines.py            prints a line for each thing that does not hold and exits with 1, or one line with the count of those that do
-  python3 docs/check_search_lines.py --renumber first writes the new number where the code quoted stands at one other line"""
+  python3 docs/check_search_lines.py --renumber first writes the numbers of the lines where the code quoted stands now"""
 import pathlib
 import re
 import sys
@@ -24,10 +24,17 @@ def stands(name, code):
     return [str(at) for at, line in enumerate(source(name), 1) if line.strip() == code]
 
 
-def renumbered(found):
-    name, number, code = found.groups()
-    now = stands(name, code)
-    return f"`{name}:{now[0] if len(now) == 1 else number}` | `{code}`"
+def renumbered(page):
+    """The page with each quoted code at the line where it stands: where it stands at several, each mention in turn."""
+    mentions = {}
+
+    def fresh(found):
+        name, number, code = found.groups()
+        turn = mentions[name, code] = mentions.get((name, code), -1) + 1
+        now = stands(name, code)
+        return f"`{name}:{now[turn] if turn < len(now) else number}` | `{code}`"
+
+    return LINE.sub(fresh, page)
 
 
 def faults(page):
@@ -44,7 +51,7 @@ def faults(page):
 
 page = PAGE.read_text(encoding="utf-8")
 if "--renumber" in sys.argv[1:]:
-    page = LINE.sub(renumbered, page)
+    page = renumbered(page)
     PAGE.write_text(page, encoding="utf-8")
 named = len(LINE.findall(page)) + len(COUNT.findall(page))
 found = list(faults(page)) if named else ["it names no line"]
