@@ -8,13 +8,14 @@ use native.Mathlib.Omega.{arith}
 use lib.Dec.{lit<}
 use borrow.Author.Tests.{not-true}
 use Rattle.days.specs.declared.Day.{Day}
-use Rattle.days.specs.Days.{inRange}
+use Rattle.days.specs.Days.{inRange, pairAt, weekdayOn}
 use Rattle.longitudes.specs.Longitudes.{longitudeAt}
 use Rattle.panchanga.specs.declared.Panchanga.{Panchanga}
 use Rattle.panchanga.specs.OnDays.{tithiAt, nakshatraAt, yogaAt, panchangaOf}
 use Rattle.query.specs.declared.Arc.{Arc}
 use Rattle.query.specs.declared.Query.{Query}
-use Rattle.query.specs.Conditions.{eachBody, meets, within, arcAt, arcInRange, arcsInRange, arcsMet, elementsMet}
+use Rattle.query.specs.Conditions.{eachBody, meets, within, arcAt, arcInRange, arcsInRange, arcsMet, elementsMet, AsksNoMore}
+use Rattle.query.specs.Query.{sunInArc, matches}
 
 pub each-true : (p : ℕ → Bool) → ((k : ℕ) → k < 9 → p k ≡ true) → eachBody p ≡ true
 each-true p h =
@@ -110,3 +111,13 @@ module _ (q : Query) (d : Day) (found : Bool) (e : (within (arcAt (q .arcs) 0) (
   elements-decide elements f g =
       ap (λ (b : Bool). sun && b) g
       ∙ ap (λ (b : Bool). b && elementsMet q d) (sym (and-true sun) ∙ ap (λ (b : Bool). sun && b) (sym f) ∙ e)
+
+-- nothing more asked: the Sun's arc and the weekday decide
+module _ (q : Query) (n : ℕ) where
+  pub weekday-not-met : meets (q .weekday) (weekdayOn n) ≡ false → (sunInArc q n && false) ≡ matches q n
+  unfolding matches
+  weekday-not-met e = and-false (sunInArc q n) ∙ sym (ap (λ (b : Bool). arcsMet (q .arcs) (pairAt n) && (b && elementsMet q (pairAt n))) e ∙ and-false (arcsMet (q .arcs) (pairAt n)))
+
+  pub no-more : AsksNoMore q → meets (q .weekday) (weekdayOn n) ≡ true → (sunInArc q n && true) ≡ matches q n
+  unfolding matches elementsMet meets sunInArc
+  no-more a w = rw (w, a .tithi, a .nakshatra, a .yoga) (no-arcs (q .arcs) (pairAt n) (a .arcs) ∙ sym (and-true (arcsMet (q .arcs) (pairAt n))))

@@ -1,7 +1,7 @@
--- What is told of a day, by the outcomes of the tests: no such day, the Sun outside its arc, inside it on another weekday, inside it on the weekday asked for.
+-- What is told of a day, by the outcomes of the tests: no such day, the Sun outside its arc, inside it with the day decided by the weekday, inside it with more to ask.
 -- Assumes nothing.
 use mathlib.Core.Path.{_≡_, sym, _∙_}
-use mathlib.Core.Bool.{Bool, true, false, _&&_, and-false}
+use mathlib.Core.Bool.{Bool, true, false, _&&_}
 use Prim.Native.Nat.{ℕ, _+_, _/_, _≤_, _<_}
 use lib.Dec.{leb}
 use borrow.Author.Tests.{le-leb, lt-leb, lt-ltb, le-ltb}
@@ -52,14 +52,14 @@ module _ (q : Query) (n : ℕ) where
     in-arc past g p w = rw (g, ← p, lt-ltb _ _ w)
 
     module _ (i : within (arcAt (q .arcs) 0) (longitudeAt 0 d) ≡ true) where
-      pub other-weekday : meets (q .weekday) (weekdayOn n) ≡ false → told 0 false (n + 1) ≡ examinedOf q n
-      unfolding examinedOf nextDay matches
-      other-weekday w = rw (le-leb n lastDay low, sym sun-in ∙ i, w, and-false (arcsMet (q .arcs) (pairAt n)))
+      pub by-weekday : (found : Bool) → (sunInArc q n && found) ≡ matches q n → told 0 found (n + 1) ≡ examinedOf q n
+      unfolding examinedOf nextDay
+      by-weekday found m = rw (le-leb n lastDay low, ← m, sym sun-in ∙ i)
 
-      pub same-weekday :
+      pub by-others :
           (found : Bool) →
           meets (q .weekday) (weekdayOn n) ≡ true →
           (within (arcAt (q .arcs) 0) (longitudeAt 0 d) && found) ≡ (arcsMet (q .arcs) d && elementsMet q d) →
           told 0 found (n + 1) ≡ examinedOf q n
       unfolding examinedOf nextDay matches
-      same-weekday found w e = rw (le-leb n lastDay low, sym sun-in ∙ i, w, ← h, ← e, i)
+      by-others found w e = rw (le-leb n lastDay low, sym sun-in ∙ i, w, ← h, ← e, i)

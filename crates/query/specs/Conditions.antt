@@ -2,7 +2,8 @@
 -- Assumes nothing.
 use mathlib.Core.Bool.{Bool, true, false, cond, _&&_}
 use mathlib.Core.List.{List}
-use Prim.Native.Nat.{ℕ}
+use mathlib.Core.Path.{_≡_}
+use Prim.Native.Nat.{ℕ, _<_}
 use lib.Dec.{leb, ltb, eqb}
 use lib.ListN.{getD}
 use Rattle.days.specs.declared.Day.{Day}
@@ -51,3 +52,10 @@ unfoldable pub conditionsInRange : Query → Bool
 conditionsInRange q =
     askedInRange (q .weekday) 6
     && (askedInRange (q .tithi) 29 && (askedInRange (q .nakshatra) 26 && (askedInRange (q .yoga) 26 && arcsInRange (q .arcs))))
+
+-- nothing is asked but the Sun's arc and the weekday
+pub record AsksNoMore (q : Query) : Type 0 where
+  pub tithi : q .tithi .given ≡ false
+  pub nakshatra : q .nakshatra .given ≡ false
+  pub yoga : q .yoga .given ≡ false
+  pub arcs : (body : ℕ) → 0 < body → body < 9 → arcAt (q .arcs) body .given ≡ false

@@ -10,7 +10,7 @@ ghost use Rattle.days.specs.Days.{inRange, pairAt, weekdayOn};
 ghost use Rattle.longitudes.specs.Longitudes.{difference, longitudeAt};
 ghost use Rattle.longitudes.specs.Answers.{bodyNumber};
 ghost use Rattle.panchanga.specs.OnDays.{nakshatraAt};
-ghost use Rattle.query.specs.Conditions.{meets, within, askedInRange, arcInRange, arcsInRange, conditionsInRange, arcAt, arcsMet, elementsMet};
+ghost use Rattle.query.specs.Conditions.{meets, within, askedInRange, arcInRange, arcsInRange, conditionsInRange, arcAt, arcsMet, elementsMet, AsksNoMore};
 ghost use Rattle.query.specs.Query.{refusalOf, sunInArc, matches as matchesOn, examinedOf};
 
 // The most that the mean Sun advances in a day, in seconds of arc.
@@ -176,9 +176,6 @@ fn other_arcs_met(arcs: [Arc; 9], day: Day) -> bool
     requires { ⌜ inRange day ≡ true ⌝ }
     ensures { λ r. ⌜ (within (arcAt arcs 0) (longitudeAt 0 day) && r) ≡ arcsMet arcs day ⌝ }
 {
-    if !other_arcs_given(arcs) {
-        return true;
-    }
     if !in_arc(arcs[1], Body::Moon, day) {
         return false;
     }
@@ -260,6 +257,47 @@ fn others_met(query: Query, day: Day) -> bool
     elements_met(query, day)
 }
 
+// Something is asked beside the Sun's arc and the weekday.
+fn asks_more(query: Query) -> bool
+    ensures { λ r. ⌜ (r ≡ false → AsksNoMore query) ⌝ }
+{
+    if query.tithi.given {
+        return true;
+    }
+    if query.nakshatra.given {
+        return true;
+    }
+    if query.yoga.given {
+        return true;
+    }
+    let arcs = query.arcs;
+    other_arcs_given(arcs)
+}
+
+// What the weekday alone tells of a day with the Sun in its arc: it is decided where the weekday is another, or nothing more is asked.
+struct Decided {
+    yes: bool,
+    matches: bool,
+}
+
+fn by_weekday(query: Query, number: u32) -> Decided
+    ensures { λ r. ⌜ (r .yes ≡ true → (sunInArc query number && r .matches) ≡ matchesOn query number) ⌝ }
+    ensures { λ r. ⌜ (r .yes ≡ false → meets (query .weekday) (weekdayOn number) ≡ true) ⌝ }
+{
+    let weekday = query.weekday;
+    if !weekday_met(weekday, number) {
+        return Decided {
+            yes: true,
+            matches: false,
+        };
+    }
+    let more = asks_more(query);
+    Decided {
+        yes: !more,
+        matches: !more,
+    }
+}
+
 fn told(matches: bool, next: u32) -> Examined
     ensures { λ r. ⌜ r ≡ record { refusal = 0; matches = matches; next = next } ⌝ }
 {
@@ -271,7 +309,7 @@ fn told(matches: bool, next: u32) -> Examined
 }
 
 // Paper 01's look: the only way to longitudes and conditions. It reckons them for the day given and for no other. The Sun's arc comes first, since it decides the next
-// day, then the weekday. (The calls of `others_met` are two, so that the compiler leaves it out of the scan's loop: most days do not come to it.)
+// day, then the weekday where it decides. (The calls of `others_met` are two, so that the compiler leaves it out of the scan's loop: most days do not come to it.)
 pub fn examine(query: Query, day: u32) -> Examined
     ensures { λ r. ⌜ r ≡ examinedOf query day ⌝ }
 {
@@ -283,20 +321,19 @@ pub fn examine(query: Query, day: u32) -> Examined
             next: 0,
         };
     }
-    let weekday = query.weekday;
-    let on_weekday = weekday_met(weekday, day);
+    let decided = by_weekday(query, day);
     let arc = query.arcs[0];
     if !arc.given {
-        if !on_weekday {
-            return told(false, day + 1);
+        if decided.yes {
+            return told(decided.matches, day + 1);
         }
         return told(others_met(query, pair.day), day + 1);
     }
     let sun = longitudes::mean_longitude(Body::Sun, pair.day);
     let past = longitudes::difference(sun.number, arc.start);
     if past < arc.width {
-        if !on_weekday {
-            return told(false, day + 1);
+        if decided.yes {
+            return told(decided.matches, day + 1);
         }
         return told(others_met(query, pair.day), day + 1);
     }
