@@ -1,8 +1,7 @@
 -- THE CLAIM of the starred cases: the meanings give what the paper says, by computing them.
 -- Assumes nothing.
 use mathlib.Core.Path.{_≡_, refl}
-use mathlib.Core.List.{List, map}
-use Prim.Native.Nat.{ℕ}
+use mathlib.Core.List.{map}
 use Rattle.days.specs.Days.{inRange, dayOf}
 use Rattle.integers.specs.Integers.{floorOver, reduced}
 use Rattle.civil.specs.Calendar.{leap, monthDays, lost, dateExists}
@@ -24,4 +23,8 @@ pub starred-hold : map (λ (c : Case). c .found) starred ≡ map (λ (c : Case).
 unfolding starred
 starred-hold =
     simp by-count
-    (unfold inRange dayOf floorOver reduced leap monthDays lost dateExists before serial counted lunarDay fieldsInRange yearInRange extraMonths reckonedDay havingWeekday numberAt answerFrom dayOn difference table meanLongitude longitudeAt longitudesAt longitudesOf bhuja equation signed corrected trueLongitude karanaAfter trueSunAt trueMoonAt tithiAt nakshatraAt yogaAt karanaAt panchangaOf meets within arcsMet elementsMet askedInRange arcInRange arcsInRange conditionsInRange matches sunInArc nextDay refusalOf filtered daysFrom matchingDays visitedFrom visitedDays resultOf in refl)
+    (unfold inRange dayOf floorOver reduced leap monthDays lost dateExists before serial counted lunarDay fieldsInRange yearInRange
+    extraMonths reckonedDay havingWeekday numberAt answerFrom dayOn difference table meanLongitude longitudeAt longitudesAt
+    longitudesOf bhuja equation signed corrected trueLongitude karanaAfter trueSunAt trueMoonAt tithiAt nakshatraAt yogaAt karanaAt
+    panchangaOf meets within arcsMet elementsMet askedInRange arcInRange arcsInRange conditionsInRange matches sunInArc nextDay
+    refusalOf filtered daysFrom matchingDays visitedFrom visitedDays resultOf in refl)

@@ -1,6 +1,6 @@
 -- The cases that paper 01 marks with a star ("Days on both sides"), in its order. Each has what the meanings give and, in the same order, what the paper says.
 -- Assumes nothing.
-use mathlib.Core.Bool.{false, true}
+use mathlib.Core.Bool.{true, false}
 use mathlib.Core.List.{List, [], _∷_, _++_}
 use Prim.Native.Nat.{ℕ, _-_}
 use lib.ListN.{length, replicate}
@@ -31,6 +31,10 @@ answer a = a .refusal ∷ a .number ∷ []
 -- the day of a civil date
 abbrev pub date : ℕ → ℕ → ℕ → NumberAnswer
 date y m d = dayOfDate (record { year = y; month = m; day = d })
+
+-- its pair: the refusal's number or 0, the cycle, the day within it
+abbrev pub pair : NumberAnswer → List ℕ
+pair a = let d = dayOf (a .number) .day in a .refusal ∷ d .cycle ∷ d .within ∷ []
 
 -- its weekday, 0 Monday to 6 Sunday
 abbrev pub weekday : NumberAnswer → ℕ
@@ -75,7 +79,7 @@ starred =
     ∷ record { found = longitudesOf (pairAt 0) .longitudes; said = 1258860 ∷ 1256760 ∷ 603180 ∷ 99480 ∷ 1105680 ∷ 970380 ∷ 764160 ∷ 828540 ∷ 1027260 ∷ [] }
     -- true Sun 1266701, true Moon 1257257, tithi 29, nakshatra 26, yoga 25, karana 10
     ∷ record { found = elements (panchangaOf (pairAt 0)); said = 1266701 ∷ 1257257 ∷ 29 ∷ 26 ∷ 25 ∷ 10 ∷ [] }
-    -- 18 March 1520: 2
+    -- 18 March 1520: 2 (in the same line of the paper, without a star of its own)
     ∷ record { found = answer (date 1520 3 18); said = 2 ∷ 0 ∷ [] }
     -- 4 October 1582: day 22844
     ∷ record { found = answer (date 1582 10 4); said = 0 ∷ 22844 ∷ [] }
@@ -84,7 +88,7 @@ starred =
     -- 10 October 1582: 1
     ∷ record { found = answer (date 1582 10 10); said = 1 ∷ 0 ∷ [] }
     -- 1 January 2000: cycle 43, day 2541, Saturday
-    ∷ record { found = (let d = dayOf (date 2000 1 1 .number) in d .day .cycle ∷ d .day .within ∷ weekday (date 2000 1 1) ∷ []); said = 43 ∷ 2541 ∷ 5 ∷ [] }
+    ∷ record { found = pair (date 2000 1 1) ++ (weekday (date 2000 1 1) ∷ []); said = 0 ∷ 43 ∷ 2541 ∷ 5 ∷ [] }
     -- 13 October 2619: day 401599, Wednesday
     ∷ record { found = answer (date 2619 10 13) ++ (weekday (date 2619 10 13) ∷ []); said = 0 ∷ 401599 ∷ 2 ∷ [] }
     -- 14 October 2619: 2

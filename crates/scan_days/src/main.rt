@@ -1,0 +1,83 @@
+// Prints the scan of paper 01's worked query. First the query: first day, last day, the arc's start and its width. Then a line for each day that
+// the scan visits: the day, its mean Sun, 1 where it matches, and the day that comes next. docs/scan.svg is drawn from this output.
+use days::Day;
+use libc::STDOUT_FILENO;
+use longitudes::Body;
+use query::Arc;
+use query::Asked;
+use query::Examined;
+use query::Query;
+ghost use mathlib.Core.Path.{_≡_};
+ghost use Rattle.query.specs.Query.{refusalOf};
+
+const NOT_ASKED: Asked = Asked {
+    given: false,
+    value: 0,
+};
+
+const NO_ARC: Arc = Arc {
+    given: false,
+    start: 0,
+    width: 0,
+};
+
+// Days 0 to 729, the Sun's arc from 0, width 3600.
+fn worked() -> Query
+    ensures { λ query. ⌜ refusalOf query ≡ 0 ⌝ }
+{
+    let mut arcs = [NO_ARC; 9];
+    arcs[0] = Arc {
+        given: true,
+        start: 0,
+        width: 3600,
+    };
+    Query {
+        first: 0,
+        last: 729,
+        weekday: NOT_ASKED,
+        tithi: NOT_ASKED,
+        nakshatra: NOT_ASKED,
+        yoga: NOT_ASKED,
+        arcs,
+    }
+}
+
+fn print(number: u32, end: &[u8]) {
+    io::print_decimal(STDOUT_FILENO, number as u64);
+    io::write_all(STDOUT_FILENO, end);
+}
+
+fn show_query(query: Query) {
+    let arc = query.arcs[0];
+    print(query.first, b" ");
+    print(query.last, b" ");
+    print(arc.start, b" ");
+    print(arc.width, b"\n");
+}
+
+fn show_visit(day: u32, seen: Examined) {
+    let pair = Day::from_number(day);
+    let sun = longitudes::mean_longitude(Body::Sun, pair.day);
+    print(day, b" ");
+    print(sun.number, b" ");
+    print(seen.matches as u32, b" ");
+    print(seen.next, b"\n");
+}
+
+fn show_scan(query: Query)
+    requires { ⌜ refusalOf query ≡ 0 ⌝ }
+{
+    let last = query.last;
+    let mut day = query.first;
+    while day <= last {
+        let seen = query::examine(query, day);
+        show_visit(day, seen);
+        day = seen.next;
+    }
+}
+
+fn main() {
+    let query = worked();
+    show_query(query);
+    show_scan(query);
+}
