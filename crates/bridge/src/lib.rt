@@ -6,7 +6,7 @@ use query::Asked;
 use query::Query;
 use search::Found;
 ghost use mathlib.Core.Path.{_≡_};
-ghost use Prim.Native.Nat.{_+_, _<_, _≤_};
+ghost use Prim.Native.Nat.{_<_};
 ghost use lib.ListN.{length};
 ghost use Rattle.bridge.specs.Bytes.{numberAt, askedAt, arcAt as arcIs, arcsOf, queryOf};
 ghost use Rattle.bridge.specs.Answers.{BridgeMeasured, bridgeResult, bridgeList, bridgeLength, bridgeLooked};

@@ -1,4 +1,5 @@
 -- `measured` meets its contract: the library's promise at the host's query, whose Sun arc is given.
+use mathlib.Core.Bool.{true}
 use mathlib.Core.Path.{refl}
 use borrow.Author.Needs.{needs}
 use Rattle.host.specs.HostQuery.{hostQuery}
@@ -15,7 +16,7 @@ returns : tie.Need-returns
 unfolding hostQuery
 returns c =
     let m = rw (c .before .query-of .ensures) at (c .measure .ensures) in
-    record { count = m .count; visits = m .visits; limit = m .limit refl }
+    record { count = m .count; visits = m .visits; limit = m .limit (refl {a = true}) }
 
 pub measured-spec : {M : Type 1} → statement M
 measured-spec = tie.close (tie.spec query-of-requires measure-requires returns)

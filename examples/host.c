@@ -1,0 +1,71 @@
+/* A small host program: it dates a day, prints its places, and looks for the Mondays with the Sun in the first degree. */
+#include <stdio.h>
+#include <stdlib.h>
+
+#include "grahalaghava.h"
+
+/* The search: all days of the table, a Sun arc of one degree from 0, Mondays. */
+enum { FIRST = 0, LAST = 401599, SUN_START = 0, SUN_WIDTH = 3600, WEEKDAY = 0 };
+
+static const char *const WEEKDAYS[7] = {"Monday", "Tuesday", "Wednesday", "Thursday", "Friday", "Saturday", "Sunday"};
+
+static void print_date(uint32_t day)
+{
+    printf("day %u: %s %u-%02u-%02u\n", (unsigned)day, WEEKDAYS[graha_day_weekday(day)], (unsigned)graha_day_year(day),
+           (unsigned)graha_day_month(day), (unsigned)graha_day_of_month(day));
+}
+
+static void print_places(uint32_t day)
+{
+    printf("  mean Sun %u, Moon %u, Mars %u, Jupiter %u, Saturn %u\n", (unsigned)graha_mean_sun(day),
+           (unsigned)graha_mean_moon(day), (unsigned)graha_mean_mars(day), (unsigned)graha_mean_jupiter(day),
+           (unsigned)graha_mean_saturn(day));
+    printf("  true Sun %u, Moon %u; tithi %u, nakshatra %u, yoga %u, karana %u\n", (unsigned)graha_true_sun(day),
+           (unsigned)graha_true_moon(day), (unsigned)graha_tithi(day), (unsigned)graha_nakshatra(day),
+           (unsigned)graha_yoga(day), (unsigned)graha_karana(day));
+}
+
+/* An entry of the list: four bytes, low byte first. */
+static uint32_t day_at(const uint8_t *list, size_t entry)
+{
+    const uint8_t *bytes = list + 4 * entry;
+    return bytes[0] | (uint32_t)bytes[1] << 8 | (uint32_t)bytes[2] << 16 | (uint32_t)bytes[3] << 24;
+}
+
+static uint32_t search(uint8_t *list, size_t list_len)
+{
+    return graha_search(FIRST, LAST, SUN_START, SUN_WIDTH, WEEKDAY, list, list_len);
+}
+
+int main(void)
+{
+    uint32_t result = graha_date_result(1612, 5, 14);
+    if (result != GRAHA_ACCEPTED) {
+        fprintf(stderr, "host: the date is refused: %u\n", (unsigned)result);
+        return 1;
+    }
+    uint32_t day = graha_date_day(1612, 5, 14);
+    print_date(day);
+    print_places(day);
+
+    uint8_t two_days[8];
+    result = search(two_days, sizeof two_days);
+    uint32_t length = graha_search_length(FIRST, LAST, SUN_START, SUN_WIDTH, WEEKDAY);
+    printf("a list of 2 days: result %u, %u days needed, %u looked at\n", (unsigned)result, (unsigned)length,
+           (unsigned)graha_search_looked(FIRST, LAST, SUN_START, SUN_WIDTH, WEEKDAY));
+
+    size_t list_len = 4 * (size_t)length;
+    uint8_t *list = malloc(list_len);
+    if (list == NULL) {
+        fprintf(stderr, "host: no memory for %u days\n", (unsigned)length);
+        return 1;
+    }
+    result = search(list, list_len);
+    printf("a list of %u days: result %u; the first and the last:\n", (unsigned)length, (unsigned)result);
+    if (result == GRAHA_ACCEPTED && length > 0) {
+        print_date(day_at(list, 0));
+        print_date(day_at(list, length - 1));
+    }
+    free(list);
+    return result == GRAHA_ACCEPTED ? 0 : 1;
+}

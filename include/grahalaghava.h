@@ -1,0 +1,100 @@
+/* The calls of libhost.a: days, places and searches after the Grahalaghava, as plain numbers.
+ *
+ * Days are 0 to 401599, from 19 March 1520 (Julian) to 13 October 2619 (Gregorian). Places are mean sunrise's at Ujjain, in whole
+ * seconds of arc from 0 to 1295999. A call hands back one number, so each number of an answer has a call of its own; a result
+ * is 0 or a refusal's number, and a number of a refused answer is 0. Every argument is allowed. There is no state.
+ *
+ * docs/host.md has more: linking, the refusals, the list.
+ */
+#ifndef GRAHALAGHAVA_H
+#define GRAHALAGHAVA_H
+
+#include <stddef.h>
+#include <stdint.h>
+
+#ifdef __cplusplus
+extern "C" {
+#endif
+
+/* What a result may be. */
+enum {
+    GRAHA_ACCEPTED = 0,
+    GRAHA_NO_SUCH_DATE = 1,      /* no such civil date; 5 to 14 October 1582 are none */
+    GRAHA_OUT_OF_RANGE = 2,      /* a day, a pair or a Saka year outside the table, or the step past its last day */
+    GRAHA_BAD_INPUT = 3,         /* months, tithis or weekday of a Saka date */
+    GRAHA_NO_SUCH_WEEKDAY = 4,   /* none of a Saka date's three days has the weekday */
+    GRAHA_LAST_BEFORE_FIRST = 5, /* a search whose last day is before its first */
+    GRAHA_BAD_CONDITION = 6,     /* a search's weekday, arc start or arc width */
+    GRAHA_LIST_TOO_SHORT = 7     /* more matching days than the list has entries */
+};
+
+/* A civil date (year from 0 up, month 1 to 12, day from 1) to its day: Julian up to 4 October 1582, Gregorian from 15 October 1582.
+ * Result 1: no such date; 2: a date outside the table. */
+uint32_t graha_date_result(uint32_t year, uint32_t month, uint32_t day);
+uint32_t graha_date_day(uint32_t year, uint32_t month, uint32_t day);
+
+/* Of a day. Result 2: a day above 401599; then every call below that takes a day gives 0. */
+uint32_t graha_day_result(uint32_t day);
+/* Its civil date. */
+uint32_t graha_day_year(uint32_t day);
+uint32_t graha_day_month(uint32_t day);
+uint32_t graha_day_of_month(uint32_t day);
+/* Its pair, day = 4016 * cycle + within. */
+uint32_t graha_day_cycle(uint32_t day);
+uint32_t graha_day_within(uint32_t day);
+/* 0 Monday to 6 Sunday. */
+uint32_t graha_day_weekday(uint32_t day);
+
+/* A pair (cycle 0 to 99, day within it 0 to 4015) to its day. Result 2: a pair outside these ranges. */
+uint32_t graha_pair_result(uint32_t cycle, uint32_t within);
+uint32_t graha_pair_day(uint32_t cycle, uint32_t within);
+
+/* The pair of the day after a pair's. Result 2: a pair outside its ranges, or the last day's. */
+uint32_t graha_next_result(uint32_t cycle, uint32_t within);
+uint32_t graha_next_cycle(uint32_t cycle, uint32_t within);
+uint32_t graha_next_within(uint32_t cycle, uint32_t within);
+
+/* A Saka lunar date (year 1442 to 2541, months 0 to 11, tithis 0 to 29, all elapsed; weekday 0 Monday to 6 Sunday) to its day.
+ * Result 3: months, tithis or weekday out of range; 2: the year or the day found; 4: none of the three days has the weekday. */
+uint32_t graha_saka_result(uint32_t year, uint32_t months, uint32_t tithis, uint32_t weekday);
+uint32_t graha_saka_day(uint32_t year, uint32_t months, uint32_t tithis, uint32_t weekday);
+
+/* A day's nine mean places. */
+uint32_t graha_mean_sun(uint32_t day);
+uint32_t graha_mean_moon(uint32_t day);
+uint32_t graha_moon_apogee(uint32_t day);
+uint32_t graha_moon_node(uint32_t day);
+uint32_t graha_mean_mars(uint32_t day);
+uint32_t graha_mercury_anomaly(uint32_t day);
+uint32_t graha_mean_jupiter(uint32_t day);
+uint32_t graha_venus_anomaly(uint32_t day);
+uint32_t graha_mean_saturn(uint32_t day);
+
+/* A day's true Sun and Moon. */
+uint32_t graha_true_sun(uint32_t day);
+uint32_t graha_true_moon(uint32_t day);
+/* Tithis elapsed, 0 to 29. */
+uint32_t graha_tithi(uint32_t day);
+/* Nakshatra and yoga, 0 to 26. */
+uint32_t graha_nakshatra(uint32_t day);
+uint32_t graha_yoga(uint32_t day);
+/* Karana, 1 to 11: 1 to 7 in turn, and 8 to 11 fixed. */
+uint32_t graha_karana(uint32_t day);
+
+/* Every day from first to last, both counted, that has the weekday and whose mean Sun is in the arc from sun_start (up to 1295999),
+ * sun_width seconds wide (1 to 1296000). With result 0 the days stand in the list, earliest first, four bytes a day, low byte first, and
+ * the bytes behind them are as they were. With any other result the whole list is as it was. list_len is in bytes; a tail under
+ * four is never written. Result 2: first or last above 401599; 5: last before first; 6: weekday, start or width out of
+ * range; 7: more days than list_len / 4. */
+uint32_t graha_search(uint32_t first, uint32_t last, uint32_t sun_start, uint32_t sun_width, uint32_t weekday,
+                      uint8_t *list, size_t list_len);
+/* How many days the search finds, however long a list: for results 0 and 7, else 0. */
+uint32_t graha_search_length(uint32_t first, uint32_t last, uint32_t sun_start, uint32_t sun_width, uint32_t weekday);
+/* How many days the search looks at to find them: for results 0 and 7, else 0. */
+uint32_t graha_search_looked(uint32_t first, uint32_t last, uint32_t sun_start, uint32_t sun_width, uint32_t weekday);
+
+#ifdef __cplusplus
+}
+#endif
+
+#endif
