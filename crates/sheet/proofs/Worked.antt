@@ -2,8 +2,8 @@
 use mathlib.Core.Path.{_≡_, refl}
 use mathlib.Core.List.{[], _∷_, _++_}
 use Rattle.integers.specs.Integers.{floorOver, reduced}
-use Rattle.longitudes.specs.Longitudes.{table, meanLongitude, longitudeAt}
-use Rattle.panchanga.specs.TrueLongitudes.{difference, bhuja, equation, signed, corrected, trueLongitude}
+use Rattle.longitudes.specs.Longitudes.{difference, table, meanLongitude, longitudeAt}
+use Rattle.panchanga.specs.TrueLongitudes.{bhuja, equation, signed, corrected, trueLongitude}
 use Rattle.panchanga.specs.Elements.{karanaAfter}
 use Rattle.panchanga.specs.OnDays.{trueSunAt, trueMoonAt, tithiAt, nakshatraAt, yogaAt, karanaAt}
 use Rattle.text.specs.Decimal.{isDigit, allDigits, withDigit, valueOf, isNumber, numberRead, digitsWithin, digitsOf}
