@@ -10,7 +10,7 @@ ghost use mathlib.Core.Path.{_≡_};
 ghost use Rattle.text.specs.Decimal.{badNumber};
 ghost use Rattle.values.specs.Values.{threeRead, sexagesimal as sexagesimalOf, angleRead, dateRead, dayRead, weekdayRead, noneRead};
 
-const WEEKDAYS: [u8; 56] = *b"monday tuesday wednesday thursday friday saturday sunday";
+pub const WEEKDAYS: [u8; 56] = *b"monday tuesday wednesday thursday friday saturday sunday";
 
 // Three numbers with a separator between them.
 pub struct Three {

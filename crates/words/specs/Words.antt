@@ -4,7 +4,7 @@ use mathlib.Core.Bool.{Bool, true, false, cond, not, _&&_, _||_}
 use mathlib.Core.List.{List, [], _∷_}
 use Prim.Native.Nat.{ℕ, zero, suc}
 use lib.Dec.{eqb}
-use lib.ListN.{take, drop}
+use lib.ListN.{getD, take, drop}
 
 -- the separators, by their bytes: newline, space, `#`, `-` and `:`
 abbrev pub newline : ℕ
@@ -73,3 +73,7 @@ same (a ∷ s) (b ∷ bs) = eqb a b && same s bs
 unfoldable pub placeIn : List (List ℕ) → List ℕ → ℕ
 placeIn [] w = 0
 placeIn (n ∷ ns) w = cond (same n w) 0 (suc (placeIn ns w))
+
+-- the name at a place, empty where there is none
+unfoldable pub nameAt : List (List ℕ) → ℕ → List ℕ
+nameAt ns n = getD ns n []

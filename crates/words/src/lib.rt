@@ -1,6 +1,6 @@
 // How a text falls into lines, and a line into words.
 ghost use mathlib.Core.Path.{_≡_};
-ghost use Rattle.words.specs.Words.{separates as separatesAs, belongs as belongsTo, run as runOf, upTo, behind as behindOf, trimmed as trimmedOf, firstWord, afterWord, pieces, placeIn};
+ghost use Rattle.words.specs.Words.{separates as separatesAs, belongs as belongsTo, run as runOf, upTo, behind as behindOf, trimmed as trimmedOf, firstWord, afterWord, pieces, placeIn, nameAt};
 
 // Where the separator is a space, a tab and a carriage return separate too.
 fn separates(separator: u8, b: u8) -> bool
@@ -97,4 +97,18 @@ pub fn place_in(names: &[u8], word: &[u8]) -> usize
         let others = behind(rest, b' ');
         rest = others;
     }
+}
+
+// The name at a place, empty where there is none.
+pub fn name_at(names: &[u8], place: usize) -> &[u8]
+    ensures { λ r. ⌜ now r ≡ nameAt (pieces 32 (now (names .entry))) place ⌝ }
+{
+    let mut left = place;
+    let mut rest = names;
+    while 0 < left {
+        let others = behind(rest, b' ');
+        rest = others;
+        left -= 1;
+    }
+    up_to(rest, b' ')
 }
