@@ -122,8 +122,8 @@ fn write_line(fd: i32, line: Line) {
 fn with_reason(line: Line, refused: u32, reason: u32) -> Line {
     match reason {
         page::UNKNOWN_WORD => line.text(b"no line begins with this word\n"),
-        page::MANY_VALUES => line.text(b"more values than this word has\n"),
-        page::BAD_VALUE => line.text(b"a value is missing or has another form\n"),
+        page::MANY_VALUES => line.text(b"more values than any word has\n"),
+        page::BAD_VALUE => line.text(b"a value is missing, of another form, or one too many\n"),
         page::STANDS_TWICE => line.text(b"this word stands already\n"),
         page::NOT_ENDED => line.text(b"the last line has no newline\n"),
         _ => with_refusal(line, refused),
