@@ -1,0 +1,48 @@
+-- `condition` meets its contract: values of another form, dates that are refused, and the query of this condition alone.
+-- Assumes nothing.
+use mathlib.Core.Path.{_∙_}
+use borrow.Author.Tests.{eq-eqb, ne-eqb}
+use Rattle.page.specs.Page.{conditionRead}
+use borrow.Author.Needs.{needs}
+use Rattle.page.proofs.condition.Statement.{statement}
+use Rattle.page.proofs.condition.Tie as tie
+
+graver-requires : tie.Need-graver-requires
+graver-requires c κs = search needs
+
+other-form-requires : tie.Need-other-form-requires
+other-form-requires c κs = search needs
+
+returns : tie.Need-returns
+unfolding conditionRead
+returns c = c .other-form .ensures ∙ rw (← c .before .before .graver .ensures, eq-eqb _ _ (c .before .if1 .taken))
+
+returns-2 : tie.Need-returns-2
+unfolding conditionRead
+returns-2 c = rw (← c .before .before .graver .ensures, ne-eqb _ _ (c .before .if1 .left), ne-eqb _ _ (c .if2 .taken))
+
+only-span-requires : tie.Need-only-span-requires
+only-span-requires c κs = search needs
+
+placed-requires : tie.Need-placed-requires
+placed-requires c κs = search needs
+
+refusal-requires : tie.Need-refusal-requires
+refusal-requires c κs = search needs
+
+returns-3 : tie.Need-returns-3
+unfolding conditionRead
+returns-3 c = rw (← c .before .before .before .before .before .graver .ensures, ne-eqb _ _ (c .before .before .before .before .if1 .left), eq-eqb _ _ (c .before .before .before .if2 .left), c .refusal .ensures, c .before .placed .ensures, c .before .before .only-span .ensures)
+
+pub condition-spec : {M : Type 1} → statement M
+condition-spec =
+    tie.close
+    (tie.spec
+    graver-requires
+    other-form-requires
+    returns
+    returns-2
+    only-span-requires
+    placed-requires
+    refusal-requires
+    returns-3)

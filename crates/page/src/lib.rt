@@ -1,0 +1,381 @@
+// A torn almanac page as a person writes it down: the text of a page to a query, and a day that was found to a line of output.
+use days::Day;
+use days::refusal;
+use query::Arc;
+use query::Asked;
+use query::Query;
+use text::NumberRead;
+use values::angle;
+use values::day;
+use values::nothing;
+use values::weekday;
+use words::after_word;
+use words::behind;
+use words::first_word;
+use words::place_in;
+use words::run;
+use words::up_to;
+ghost use mathlib.Core.Path.{_≡_};
+ghost use Prim.Native.Nat.{_<_};
+ghost use Rattle.page.specs.Page.{conditions, everyDay, onlySpan, placed as placedIn, rank as rankOf, graver as graverOf, firstValue, secondValue, otherForm, conditionRead, lineRead, graverFault, faulted as faultedBy, withLine, emptyPage, pageGives, pageRead};
+
+// The words that a line begins with, each a condition, known by its place among them.
+const KEYWORDS: [u8; 88] = *b"span weekday tithi nakshatra yoga sun moon apogee node mars mercury jupiter venus saturn";
+
+const SPAN: usize = 0;
+
+const WEEKDAY: usize = 1;
+
+const TITHI: usize = 2;
+
+const NAKSHATRA: usize = 3;
+
+const YOGA: usize = 4;
+
+// The Sun's, and behind it the other bodies'.
+const ARCS: usize = 5;
+
+// How many there are.
+const CONDITIONS: usize = 14;
+
+// Why a line has another form.
+pub const UNKNOWN_WORD: u32 = 1;
+
+pub const MANY_VALUES: u32 = 2;
+
+pub const BAD_VALUE: u32 = 3;
+
+pub const STANDS_TWICE: u32 = 4;
+
+pub const NOT_ENDED: u32 = 5;
+
+// What reading a page gives: the refusal's number, or 0, why a line has another form, the line at fault, counted from 1, and
+// the query. A refusal has a query of all zeros.
+pub struct PageRead {
+    pub refusal: u32,
+    pub reason: u32,
+    pub line: usize,
+    pub query: Query,
+}
+
+// A line that has been read: its condition and the condition's two values. A line without one has CONDITIONS.
+struct LineRead {
+    refusal: u32,
+    reason: u32,
+    keyword: usize,
+    first: u32,
+    second: u32,
+}
+
+// A refusal, and the line that it comes from.
+struct Fault {
+    refusal: u32,
+    reason: u32,
+    line: usize,
+}
+
+// What the lines so far mean, and which words stand in them.
+struct Page {
+    fault: Fault,
+    stands: [bool; CONDITIONS],
+    query: Query,
+}
+
+fn only_span(first: u32, last: u32) -> Query
+    ensures { λ r. ⌜ r ≡ onlySpan first last ⌝ }
+{
+    let any = Asked {
+        given: false,
+        value: 0,
+    };
+    let anywhere = Arc {
+        given: false,
+        start: 0,
+        width: 0,
+    };
+    Query {
+        first,
+        last,
+        weekday: any,
+        tithi: any,
+        nakshatra: any,
+        yoga: any,
+        arcs: [anywhere; 9],
+    }
+}
+
+fn placed(query: Query, keyword: usize, first: u32, second: u32) -> Query
+    requires { ⌜ keyword < conditions ⌝ }
+    ensures { λ r. ⌜ r ≡ placedIn query keyword first second ⌝ }
+{
+    let mut query = query;
+    let asked = Asked {
+        given: true,
+        value: first,
+    };
+    if keyword == SPAN {
+        query.first = first;
+        query.last = second;
+        return query;
+    }
+    if keyword == WEEKDAY {
+        query.weekday = asked;
+        return query;
+    }
+    if keyword == TITHI {
+        query.tithi = asked;
+        return query;
+    }
+    if keyword == NAKSHATRA {
+        query.nakshatra = asked;
+        return query;
+    }
+    if keyword == YOGA {
+        query.yoga = asked;
+        return query;
+    }
+    let body = keyword - ARCS;
+    let mut arcs = query.arcs;
+    arcs[body] = Arc {
+        given: true,
+        start: first,
+        width: second,
+    };
+    query.arcs = arcs;
+    query
+}
+
+// The order of refusals: the lower comes first.
+fn rank(number: u32) -> u32
+    ensures { λ r. ⌜ r ≡ rankOf number ⌝ }
+{
+    if number == refusal::BAD_INPUT {
+        0
+    } else if number == refusal::NO_SUCH_DATE {
+        1
+    } else if number == refusal::OUT_OF_RANGE {
+        2
+    } else if number == refusal::LAST_BEFORE_FIRST {
+        3
+    } else if number == refusal::BAD_CONDITION {
+        4
+    } else {
+        5
+    }
+}
+
+fn graver(one: u32, other: u32) -> u32
+    ensures { λ r. ⌜ r ≡ graverOf one other ⌝ }
+{
+    if rank(other) < rank(one) { other } else { one }
+}
+
+fn first_value(keyword: usize, word: &[u8]) -> NumberRead
+    ensures { λ r. ⌜ r ≡ firstValue keyword (now (word .entry)) ⌝ }
+{
+    if keyword == SPAN {
+        return day(word);
+    }
+    if keyword == WEEKDAY {
+        return weekday(word);
+    }
+    if keyword < ARCS {
+        return text::read_decimal(word);
+    }
+    angle(word)
+}
+
+fn second_value(keyword: usize, word: &[u8]) -> NumberRead
+    ensures { λ r. ⌜ r ≡ secondValue keyword (now (word .entry)) ⌝ }
+{
+    if keyword == SPAN {
+        return day(word);
+    }
+    if keyword < ARCS {
+        return nothing(word);
+    }
+    angle(word)
+}
+
+fn other_form(reason: u32) -> LineRead
+    ensures { λ r. ⌜ r ≡ otherForm reason ⌝ }
+{
+    LineRead {
+        refusal: refusal::BAD_INPUT,
+        reason,
+        keyword: CONDITIONS,
+        first: 0,
+        second: 0,
+    }
+}
+
+fn condition(keyword: usize, first: NumberRead, second: NumberRead) -> LineRead
+    requires { ⌜ keyword < conditions ⌝ }
+    ensures { λ r. ⌜ r ≡ conditionRead keyword first second ⌝ }
+{
+    let refused = graver(first.refusal, second.refusal);
+    if refused == refusal::BAD_INPUT {
+        return other_form(BAD_VALUE);
+    }
+    if refused != refusal::NONE {
+        return LineRead {
+            refusal: refused,
+            reason: 0,
+            keyword,
+            first: 0,
+            second: 0,
+        };
+    }
+    let every = only_span(0, Day::LAST);
+    let alone = placed(every, keyword, first.number, second.number);
+    let refused = alone.refusal();
+    LineRead {
+        refusal: refused,
+        reason: 0,
+        keyword,
+        first: first.number,
+        second: second.number,
+    }
+}
+
+fn read_line(line: &[u8]) -> LineRead
+    ensures { λ r. ⌜ r ≡ lineRead (now (line .entry)) ⌝ }
+{
+    let body = up_to(line, b'#');
+    let name = first_word(body);
+    if name.len() == 0 {
+        return LineRead {
+            refusal: refusal::NONE,
+            reason: 0,
+            keyword: CONDITIONS,
+            first: 0,
+            second: 0,
+        };
+    }
+    let keyword = place_in(&KEYWORDS, name);
+    if CONDITIONS <= keyword {
+        return other_form(UNKNOWN_WORD);
+    }
+    let values = after_word(body);
+    let others = after_word(values);
+    let more = first_word(after_word(others));
+    if more.len() != 0 {
+        return other_form(MANY_VALUES);
+    }
+    let first = first_value(keyword, first_word(values));
+    let second = second_value(keyword, first_word(others));
+    condition(keyword, first, second)
+}
+
+fn graver_fault(one: Fault, other: Fault) -> Fault
+    ensures { λ r. ⌜ r ≡ graverFault one other ⌝ }
+{
+    if rank(other.refusal) < rank(one.refusal) { other } else { one }
+}
+
+fn faulted(page: Page, fault: Fault) -> Page
+    ensures { λ r. ⌜ r ≡ faultedBy page fault ⌝ }
+{
+    let mut page = page;
+    page.fault = graver_fault(page.fault, fault);
+    page
+}
+
+fn with_line(page: Page, number: usize, line: LineRead) -> Page
+    ensures { λ r. ⌜ r ≡ withLine page number line ⌝ }
+{
+    let keyword = line.keyword;
+    let fault = Fault {
+        refusal: line.refusal,
+        reason: line.reason,
+        line: number,
+    };
+    if CONDITIONS <= keyword {
+        return faulted(page, fault);
+    }
+    let mut stands = page.stands;
+    if stands[keyword] {
+        return faulted(
+            page,
+            Fault {
+                refusal: refusal::BAD_INPUT,
+                reason: STANDS_TWICE,
+                line: number,
+            },
+        );
+    }
+    stands[keyword] = true;
+    let fault = graver_fault(page.fault, fault);
+    let query = placed(page.query, keyword, line.first, line.second);
+    Page {
+        fault,
+        stands,
+        query,
+    }
+}
+
+fn empty_page() -> Page
+    ensures { λ r. ⌜ r ≡ emptyPage ⌝ }
+{
+    let query = only_span(0, Day::LAST);
+    Page {
+        fault: Fault {
+            refusal: refusal::NONE,
+            reason: 0,
+            line: 0,
+        },
+        stands: [false; CONDITIONS],
+        query,
+    }
+}
+
+fn gives(page: Page) -> PageRead
+    ensures { λ r. ⌜ r ≡ pageGives page ⌝ }
+{
+    let fault = page.fault;
+    if fault.refusal == refusal::NONE {
+        let query = page.query;
+        return PageRead {
+            refusal: refusal::NONE,
+            reason: 0,
+            line: 0,
+            query,
+        };
+    }
+    let query = only_span(0, 0);
+    PageRead {
+        refusal: fault.refusal,
+        reason: fault.reason,
+        line: fault.line,
+        query,
+    }
+}
+
+// The query that a page's text means, or its refusal.
+pub fn read(text: &[u8]) -> PageRead
+    ensures { λ r. ⌜ r ≡ pageRead (now (text .entry)) ⌝ }
+{
+    let mut page = empty_page();
+    let mut number: usize = 1;
+    let mut rest = text;
+    while 0 < rest.len() {
+        if run(rest, b'\n', false) == rest.len() {
+            return gives(
+                faulted(
+                    page,
+                    Fault {
+                        refusal: refusal::BAD_INPUT,
+                        reason: NOT_ENDED,
+                        line: number,
+                    },
+                ),
+            );
+        }
+        let line = read_line(up_to(rest, b'\n'));
+        page = with_line(page, number, line);
+        number += 1;
+        let others = behind(rest, b'\n');
+        rest = others;
+    }
+    gives(page)
+}

@@ -1,0 +1,58 @@
+-- The name at a place, found piece by piece: behind the first separator, each name's place is one less. Assumes nothing.
+use mathlib.Core.Path.{_≡_, refl, ap, sym, _∙_}
+use mathlib.Core.Bool.{Bool, true, false}
+use mathlib.Core.List.{List, [], _∷_}
+use Prim.Native.Nat.{ℕ, zero, suc, _-_, _≤_, _<_}
+use native.Mathlib.Omega.{arith}
+use borrow.Author.Tests.{ltb-false}
+use lib.Dec.{ltb}
+use lib.ListN.{length, drop-of-length-le}
+use Rattle.words.specs.Words.{space, run, upTo, behind, pieces, nameAt}
+use Rattle.words.proofs.Pieces.{laterPieces, pieces-first}
+
+name-first : (bs : List ℕ) → nameAt (pieces space bs) 0 ≡ upTo space bs
+unfolding nameAt
+name-first bs = rw (pieces-first space bs)
+
+none-later : (n : ℕ) → nameAt (pieces space []) n ≡ []
+unfolding nameAt pieces
+none-later zero = refl
+none-later (suc n) = refl
+
+nothing : (bs : List ℕ) → ltb (run false space bs) (length bs) ≡ false → behind space bs ≡ []
+unfolding behind
+nothing bs e =
+    drop-of-length-le bs {i = suc (run false space bs)} (omega (arith, ltb-false (run false space bs) (length bs) e))
+
+name-next : (bs : List ℕ) (n : ℕ) → nameAt (pieces space bs) (suc n) ≡ nameAt (pieces space (behind space bs)) n
+unfolding nameAt laterPieces
+name-next bs n = go (ltb (run false space bs) (length bs)) refl
+  where
+    go :
+        (t : Bool) →
+        ltb (run false space bs) (length bs) ≡ t →
+        nameAt (pieces space bs) (suc n) ≡ nameAt (pieces space (behind space bs)) n
+    go true e = rw (pieces-first space bs, e)
+    go false e = rw (pieces-first space bs, e) (sym (none-later n) ∙ ap (λ s. nameAt (pieces space s) n) (sym (nothing bs e)))
+
+-- before the name that is left places on
+abbrev pub Naming : List ℕ → ℕ → ℕ → List ℕ → Type 0
+Naming names place left rest = nameAt (pieces space rest) left ≡ nameAt (pieces space names) place
+
+pub naming-next :
+    (names : List ℕ) (place left : ℕ) (rest : List ℕ) →
+    Naming names place left rest →
+    0 < left →
+    Naming names place (left - 1) (behind space rest)
+naming-next names place zero rest p h = absurd (omega arith)
+naming-next names place (suc left) rest p h =
+    let back : suc left - 1 ≡ left = omega arith in
+    rw back (sym (name-next rest left) ∙ p)
+
+pub naming-end :
+    (names : List ℕ) (place left : ℕ) (rest : List ℕ) →
+    Naming names place left rest →
+    left ≤ 0 →
+    upTo space rest ≡ nameAt (pieces space names) place
+naming-end names place zero rest p h = sym (name-first rest) ∙ p
+naming-end names place (suc left) rest p h = absurd (omega arith)

@@ -1,0 +1,94 @@
+-- The place of a word among names, found piece by piece: before each piece, the names passed are others, and the word's
+-- place among those ahead is what is left to count. Assumes nothing.
+use mathlib.Core.Path.{_≡_, refl, ap, sym, _∙_}
+use mathlib.Core.Bool.{Bool, true, false, false≢true, and-eq-true-iff}
+use mathlib.Core.List.{List, [], _∷_}
+use Prim.Native.Nat.{ℕ, suc, _+_, _≤_, _<_}
+use native.Mathlib.Omega.{arith}
+use borrow.Author.Tests.{eqb-true, eq-eqb}
+use lib.Dec.{eqb}
+use lib.ListN.{length}
+use Rattle.words.specs.Words.{space, run, upTo, behind, pieces, same, placeIn}
+use Rattle.words.proofs.Runs.{run-le}
+use Rattle.words.proofs.Pieces.{laterPieces, pieces-first, pieces-last, pieces-more, up-to-whole, behind-shorter}
+
+same-refl : (s : List ℕ) → same s s ≡ true
+unfolding same
+same-refl [] = refl
+same-refl (a ∷ s) = rw (eq-eqb a a refl, same-refl s)
+
+same-eq : (s t : List ℕ) → same s t ≡ true → s ≡ t
+unfolding same
+same-eq [] [] e = refl
+same-eq [] (b ∷ t) e = absurd (false≢true e)
+same-eq (a ∷ s) [] e = absurd (false≢true e)
+same-eq (a ∷ s) (b ∷ t) e =
+    let both = and-eq-true-iff (eqb a b) (same s t) .0 e in
+    let head = eqb-true a b (both .0) in
+    let rest = same-eq s t (both .1) in
+    cc
+
+-- a test that holds just of equal lists is `same`
+same-is : (r : Bool) (s t : List ℕ) → (r ≡ true → s ≡ t) → (s ≡ t → r ≡ true) → r ≡ same s t
+same-is true s t f g = sym (rw (f refl) (same-refl t))
+same-is false s t f g = go (same s t) refl
+  where
+    go : (u : Bool) → same s t ≡ u → false ≡ same s t
+    go true e = g (same-eq s t e) ∙ sym e
+    go false e = sym e
+
+place-here : (n : List ℕ) (ns : List (List ℕ)) (w : List ℕ) → same n w ≡ true → placeIn (n ∷ ns) w ≡ 0
+unfolding placeIn
+place-here n ns w e = rw e
+
+place-later : (n : List ℕ) (ns : List (List ℕ)) (w : List ℕ) → same n w ≡ false → placeIn (n ∷ ns) w ≡ suc (placeIn ns w)
+unfolding placeIn
+place-later n ns w e = rw e
+
+place-nowhere : (w : List ℕ) → placeIn [] w ≡ 0
+unfolding placeIn
+place-nowhere w = refl
+
+-- before the first name of rest: so many names were passed
+pub record Placing (names word : List ℕ) (place : ℕ) (rest : List ℕ) : Type 0 where
+  pub count : place + placeIn (pieces space rest) word ≡ placeIn (pieces space names) word
+  pub room : place + length rest ≤ length names
+
+pub placing-start : (names word : List ℕ) → Placing names word 0 names
+placing-start names word = record { count = omega arith; room = omega arith }
+
+-- what is told of the first name
+pub first-same :
+    (word rest got : List ℕ) (r : Bool) →
+    got ≡ upTo space rest →
+    (r ≡ true → got ≡ word) × (got ≡ word → r ≡ true) →
+    r ≡ same (upTo space rest) word
+first-same word rest got r e h = same-is r got word (h .0) (h .1) ∙ ap (λ s. same s word) e
+
+module _ (names word : List ℕ) (place : ℕ) (rest : List ℕ) (p : Placing names word place rest) where
+  abbrev first : List ℕ
+  first = upTo space rest
+
+  pub placing-found : same first word ≡ true → place ≡ placeIn (pieces space names) word
+  placing-found e =
+      let here = ap (λ ps. placeIn ps word) (pieces-first space rest) ∙ place-here first (laterPieces space rest) word e in
+      omega (arith, p .count)
+
+  pub placing-end :
+      same first word ≡ false →
+      run false space rest ≡ length rest →
+      place + 1 ≡ placeIn (pieces space names) word
+  placing-end e end =
+      let later = place-later rest [] word (rw (up-to-whole space rest end) at e) in
+      let last = ap (λ ps. placeIn ps word) (pieces-last space rest end) in
+      omega (arith, p .count, place-nowhere word)
+
+  pub placing-next :
+      same first word ≡ false →
+      (run false space rest ≡ length rest → ⊥) →
+      Placing names word (place + 1) (behind space rest)
+  placing-next e more =
+      let some : run false space rest < length rest = omega (arith, run-le false space rest) in
+      let later = place-later first (pieces space (behind space rest)) word e in
+      let split = ap (λ ps. placeIn ps word) (pieces-more space rest some) in
+      record { count = omega (arith, p .count); room = omega (arith, p .room, behind-shorter space rest more) }
