@@ -13,7 +13,11 @@ ghost use Rattle.catalogue.specs.Catalogue.{heading as headingOf, dateBy
 pub fn heading(length: u32, examined: u32) -> Line
     ensures { λ r. ⌜ Holds r (headingOf length examined) ⌝ }
 {
-    let counts = Line::empty().text(b"found ").number(length).text(b" looked ").number(examined);
+    let counts = Line::empty()
+        .text(b"found ")
+        .number(length)
+        .text(b" looked ")
+        .number(examined);
     counts.text(b"\nday date weekday tithi nakshatra yoga karana\n")
 }
 

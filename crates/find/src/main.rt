@@ -100,7 +100,11 @@ fn print_days(found: Found, list: &[u8], buffer: &mut [u8]) -> bool
         used: 0,
         whole: true,
     };
-    let mut output = print(start, buffer, catalogue::heading(found.length, found.examined));
+    let mut output = print(
+        start,
+        buffer,
+        catalogue::heading(found.length, found.examined),
+    );
     let count = found.length as usize;
     let mut i = 0;
     while i < count {

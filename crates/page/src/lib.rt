@@ -20,7 +20,8 @@ ghost use Prim.Native.Nat.{_<_};
 ghost use Rattle.page.specs.Page.{conditions, everyDay, onlySpan, placed as placedIn, rank as rankOf, graver as graverOf, firstValue, secondValue, otherForm, conditionRead, lineRead, graverFault, faulted as faultedBy, withLine, emptyPage, pageGives, pageRead};
 
 // The words that a line begins with, each a condition, known by its place among them.
-const KEYWORDS: [u8; 88] = *b"span weekday tithi nakshatra yoga sun moon apogee node mars mercury jupiter venus saturn";
+const KEYWORDS: [u8; 88] =
+    *b"span weekday tithi nakshatra yoga sun moon apogee node mars mercury jupiter venus saturn";
 
 const SPAN: usize = 0;
 
@@ -270,7 +271,11 @@ fn read_line(line: &[u8]) -> LineRead
 fn graver_fault(one: Fault, other: Fault) -> Fault
     ensures { λ r. ⌜ r ≡ graverFault one other ⌝ }
 {
-    if rank(other.refusal) < rank(one.refusal) { other } else { one }
+    if rank(other.refusal) < rank(one.refusal) {
+        other
+    } else {
+        one
+    }
 }
 
 fn faulted(page: Page, fault: Fault) -> Page
@@ -360,16 +365,14 @@ pub fn read(text: &[u8]) -> PageRead
     let mut rest = text;
     while 0 < rest.len() {
         if run(rest, b'\n', false) == rest.len() {
-            return gives(
-                faulted(
-                    page,
-                    Fault {
-                        refusal: refusal::BAD_INPUT,
-                        reason: NOT_ENDED,
-                        line: number,
-                    },
-                ),
-            );
+            return gives(faulted(
+                page,
+                Fault {
+                    refusal: refusal::BAD_INPUT,
+                    reason: NOT_ENDED,
+                    line: number,
+                },
+            ));
         }
         let line = read_line(up_to(rest, b'\n'));
         page = with_line(page, number, line);

@@ -3,9 +3,9 @@ use civil::Date;
 use days::refusal;
 use text::NumberRead;
 use text::read_decimal;
-use words::up_to;
 use words::behind;
 use words::place_in;
+use words::up_to;
 ghost use mathlib.Core.Path.{_≡_};
 ghost use Rattle.text.specs.Decimal.{badNumber};
 ghost use Rattle.values.specs.Values.{threeRead, sexagesimal as sexagesimalOf, angleRead, dateRead, dayRead, weekdayRead, noneRead};
@@ -94,13 +94,11 @@ fn date(t: Three) -> NumberRead
     if !t.read {
         return BAD;
     }
-    let found = civil::day_of(
-        Date {
-            year: t.first,
-            month: t.second,
-            day: t.third,
-        },
-    );
+    let found = civil::day_of(Date {
+        year: t.first,
+        month: t.second,
+        day: t.third,
+    });
     NumberRead {
         refusal: found.refusal,
         number: found.number,

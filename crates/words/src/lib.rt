@@ -45,8 +45,8 @@ pub fn run(s: &[u8], separator: u8, separators: bool) -> usize
 pub fn up_to(s: &[u8], separator: u8) -> &[u8]
     ensures { λ r. ⌜ now r ≡ upTo separator (now (s .entry)) ⌝ }
 {
-    let end = run(s, separator, false);
-    &s[..end]
+    let length = run(s, separator, false);
+    &s[..length]
 }
 
 pub fn behind(s: &[u8], separator: u8) -> &[u8]

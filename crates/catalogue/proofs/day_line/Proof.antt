@@ -59,7 +59,7 @@ byte-requires-3 c κs = search needs
 
 returns-2 : tie.Need-returns-2
 unfolding pieces separates inFront
-returns-2 c = 
+returns-2 c =
     let made = day-made _ _ _ _ _ (c .before .before .before .before .before .before .before .before .before .before .before .before .before .before .from-number .ensures) (c .before .before .before .before .before .before .before .before .before .before .before .before .if1 .left) (c .before .before .before .before .before .before .before .before .before .before .before .date-of .ensures) (c .before .before .before .before .before .before .before .before .name-at .ensures) (c .before .before .before .before .before .before .before .before .before .before .of-day .ensures) in
     rw (← made)
     (holds _ _ (together-fits (c .before .before .before .before .before .before .before .before .before .before .before .before .before .before .before .args .day) (c .before .before .before .before .before .before .before .before .before .before .before .date-of .result .date) (c .before .before .before .before .before .before .before .before .name-at .result .now) (c .before .before .before .before .before .before .before .before .before .before .of-day .result)

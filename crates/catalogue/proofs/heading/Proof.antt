@@ -38,7 +38,7 @@ text-requires-3 c κs = search needs
 
 returns : tie.Need-returns
 unfolding heading
-returns c = 
+returns c =
     holds _ _ (heading-fits _ _ (omega arith) (omega arith))
     (rw (c .text3 .ensures, c .before .before .number2 .ensures, c .before .before .before .text2 .ensures, c .before .before .before .before .before .number .ensures, c .before .before .before .before .before .before .text .ensures, c .before .before .before .before .before .before .before .before .empty .ensures)
     (simp (with-bytes-append, append-assoc)))
