@@ -6,12 +6,12 @@ use longitudes::CIRCLE;
 ghost use mathlib.Core.Path.{_≡_};
 ghost use mathlib.Core.Bool.{true, false, not, _&&_};
 ghost use Prim.Native.Nat.{ℕ, _<_};
-ghost use Rattle.days.specs.Days.{inRange, pairAt, weekdayOn};
+ghost use Rattle.days.specs.Days.{inRange, weekdayOn};
 ghost use Rattle.longitudes.specs.Longitudes.{difference, longitudeAt};
 ghost use Rattle.longitudes.specs.Answers.{bodyNumber};
 ghost use Rattle.panchanga.specs.OnDays.{nakshatraAt};
 ghost use Rattle.query.specs.Conditions.{meets, within, askedInRange, arcInRange, arcsInRange, conditionsInRange, arcAt, arcsMet, elementsMet, AsksNoMore};
-ghost use Rattle.query.specs.Query.{refusalOf, sunInArc, matches as matchesOn, examinedOf};
+ghost use Rattle.query.specs.Query.{refusalOf, examinedOf};
 
 // The most that the mean Sun advances in a day, in seconds of arc.
 const SUN_ADVANCE: u32 = 3549;
