@@ -90,6 +90,27 @@ impl Checks {
         }
     }
 
+    /// Every line of some text; of a difference, the first line is named.
+    pub fn same_lines(
+        &mut self,
+        call: &str,
+        input: impl FnOnce() -> String,
+        expected: &str,
+        came: &str,
+    ) {
+        self.in_part += 1;
+        if expected != came {
+            let lines = |text: &str| text.split_inclusive('\n').map(String::from).collect();
+            let (expected, came): (Vec<String>, Vec<String>) = (lines(expected), lines(came));
+            let pairs = expected.iter().zip(&came);
+            let at = pairs.take_while(|(e, c)| e == c).count();
+            let line = |lines: &[String]| {
+                format!("line {} of {}: {:?}", at + 1, lines.len(), lines.get(at))
+            };
+            self.differ(call, &input(), &line(&expected), &line(&came));
+        }
+    }
+
     fn differ(&self, call: &str, input: &str, expected: &str, came: &str) -> ! {
         println!("{}: a difference after {} checks", self.part, self.in_part);
         println!("  call:     {call}");

@@ -29,5 +29,6 @@ fn main() {
     checks.part("day sheets", |checks| {
         runs::day_sheet::run(checks, &almanac)
     });
+    checks.part("pages", |checks| runs::find::run(checks, &almanac));
     println!("compare: {} checks, 0 differences", checks.total());
 }

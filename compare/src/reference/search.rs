@@ -95,7 +95,7 @@ impl Query {
     }
 
     /// "Order: search 2, 5, 6, 7"; 7 needs the list and comes later.
-    fn well_formed(&self) -> Answer<()> {
+    pub fn well_formed(&self) -> Answer<()> {
         if self.first > LAST_DAY || self.last > LAST_DAY {
             Err(OUT_OF_RANGE)
         } else if self.last < self.first {

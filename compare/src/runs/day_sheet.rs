@@ -1,68 +1,22 @@
 //! The day sheet's program, run on many inputs; what it prints is compared byte for byte.
 
-use std::io::{ErrorKind, Write};
-use std::process::{Command, Output, Stdio};
-use std::thread::sleep;
-use std::time::Duration;
-
 use crate::checks::Checks;
 use crate::random::Random;
 use crate::reference::almanac::Almanac;
 use crate::reference::days::LAST_DAY;
 use crate::reference::sheet::day_sheet;
 
+use super::programs::{self, shown};
+
 const PROGRAM: &str = "target/bin/day_sheet";
-
-/// Runs the program on an input that comes in pieces.
-fn output_for(pieces: &[&[u8]]) -> Output {
-    let mut program = Command::new(PROGRAM)
-        .stdin(Stdio::piped())
-        .stdout(Stdio::piped())
-        .stderr(Stdio::piped())
-        .spawn()
-        .unwrap_or_else(|error| panic!("{PROGRAM} can't be started: {error}"));
-    let mut input = program.stdin.take().expect("the input is a pipe");
-    for (at, piece) in pieces.iter().enumerate() {
-        if at > 0 {
-            sleep(Duration::from_millis(30));
-        }
-        match input.write_all(piece) {
-            Ok(()) => {}
-            // The program may have read enough to know its answer.
-            Err(error) if error.kind() == ErrorKind::BrokenPipe => break,
-            Err(error) => panic!("{PROGRAM} can't be written to: {error}"),
-        }
-    }
-    drop(input);
-    program.wait_with_output().expect("the program ends")
-}
-
-/// An input as text for a message, cut where it is long.
-fn shown(input: &[u8]) -> String {
-    let start = &input[..input.len().min(40)];
-    format!("{} bytes, \"{}\"", input.len(), start.escape_ascii())
-}
 
 fn compare_pieces(checks: &mut Checks, almanac: &Almanac, pieces: &[&[u8]]) {
     let input = pieces.concat();
     let expected = day_sheet(almanac, &input);
-    let output = output_for(pieces);
-    // A byte that isn't text is replaced, and so differs from all that is expected.
-    let text = |bytes: &[u8]| String::from_utf8_lossy(bytes).into_owned();
     let input = || format!("{}, in {} pieces", shown(&input), pieces.len());
-    checks.same(PROGRAM, input, expected, text(&output.stdout));
-    checks.same(
-        "its standard error",
-        input,
-        String::new(),
-        text(&output.stderr),
-    );
-    checks.same(
-        "it ends by no signal",
-        input,
-        true,
-        output.status.code().is_some(),
-    );
+    let written = programs::run(checks, PROGRAM, input, pieces);
+    checks.same(PROGRAM, input, expected, written.output);
+    checks.same("its standard error", input, String::new(), written.error);
 }
 
 fn compare(checks: &mut Checks, almanac: &Almanac, input: &[u8]) {

@@ -3,9 +3,12 @@
 pub mod civil;
 pub mod day_sheet;
 pub mod days;
+pub mod find;
 pub mod general_search;
 pub mod host_search;
+pub mod page_text;
 pub mod pairs;
+pub mod programs;
 pub mod queries;
 pub mod saka;
 pub mod searches;

@@ -1,10 +1,10 @@
-//! Spans and arcs to search for: at the edges, and random.
+//! Spans, arcs and whole queries to search for: at the edges, and random.
 
 use crate::random::Random;
-use crate::reference::almanac::Almanac;
+use crate::reference::almanac::{Almanac, Day};
 use crate::reference::days::LAST_DAY;
 use crate::reference::longitudes::SUN;
-use crate::reference::search::Arc;
+use crate::reference::search::{Arc, Query};
 
 /// First and last day.
 pub type Span = (u32, u32);
@@ -108,4 +108,34 @@ pub fn arc_ahead(random: &mut Random, almanac: &Almanac, day: u32) -> Arc {
         (place + multiple + beside) % 1_296_000,
         random.one_of(&[1, 1, 2, 3549]),
     )
+}
+
+/// The day's own value mostly, else any in range.
+fn value_near(random: &mut Random, own: u32, values: u32) -> u32 {
+    if random.once_in(8) {
+        random.below(values)
+    } else {
+        own
+    }
+}
+
+/// A query whose given conditions are the bits of `given`: the four values, then the nine arcs.
+/// Mostly they are chosen so that one day of the span meets them all.
+pub fn random_query(random: &mut Random, almanac: &Almanac, given: u32, most: u32) -> Query {
+    let (first, last) = random_span(random, most);
+    let target: &Day = &almanac.days()[random.between(first, last) as usize];
+    let mut query = Query::without_conditions(first, last);
+    let asked = |condition: usize| given >> condition & 1 == 1;
+    query.weekday = asked(0).then(|| value_near(random, target.weekday, 7));
+    query.tithi = asked(1).then(|| value_near(random, target.tithi, 30));
+    query.nakshatra = asked(2).then(|| value_near(random, target.nakshatra, 27));
+    query.yoga = asked(3).then(|| value_near(random, target.yoga, 27));
+    for body in 0..9 {
+        query.arcs[body] = asked(4 + body).then(|| match random.below(16) {
+            0 => random_arc(random),
+            1..=3 if body == SUN => arc_ahead(random, almanac, first),
+            _ => arc_around(random, target.mean[body]),
+        });
+    }
+    query
 }

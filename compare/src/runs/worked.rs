@@ -6,6 +6,7 @@ use crate::reference::almanac::Almanac;
 use crate::reference::civil::Date;
 use crate::reference::days::LAST_DAY;
 use crate::reference::longitudes::{MOON, MOON_APOGEE, SUN};
+use crate::reference::page::printed;
 use crate::reference::saka::SakaDate;
 use crate::reference::search::{Arc, Query};
 use crate::reference::sheet::day_sheet;
@@ -193,6 +194,43 @@ fn sheet(checks: &mut Checks, almanac: &Almanac) {
     );
 }
 
+/// "Days on both sides" as pages: the limbs of two days, and the search's beginning.
+fn pages(checks: &mut Checks, almanac: &Almanac) {
+    let heading = "day date weekday tithi nakshatra yoga karana";
+    let cases = [
+        (
+            "span 0 1520-3-19\n",
+            "found 1 looked 1",
+            "0 1520-3-19 monday 29 26 25 10\n",
+        ),
+        (
+            "span 1612-5-14 33649\n",
+            "found 1 looked 1",
+            "33649 1612-5-14 monday 14 15 18 7\n",
+        ),
+        (
+            "span 0 729\nsun 0 1:0:0\n",
+            "found 2 looked 5",
+            "11 1520-3-30 friday ",
+        ),
+    ];
+    for (page, counts, days) in cases {
+        let expected = format!("{counts}\n{heading}\n{days}");
+        let mut came = printed(almanac, page.as_bytes()).output;
+        came.truncate(expected.len());
+        checks.same("what a page finds", || page.to_string(), expected, came);
+    }
+    for (page, refusal) in [
+        ("span 1520-3-18 5\n", 2),
+        ("span 1582-10-10 5\n", 1),
+        ("span 5 2619-10-14\n", 2),
+    ] {
+        let expected = format!("refused {refusal}\n");
+        let came = printed(almanac, page.as_bytes()).output;
+        checks.same("what a page finds", || page.to_string(), expected, came);
+    }
+}
+
 pub fn run(checks: &mut Checks, almanac: &Almanac) {
     dates(checks, almanac);
     every_day(checks, almanac);
@@ -200,4 +238,5 @@ pub fn run(checks: &mut Checks, almanac: &Almanac) {
     saka_dates(checks);
     search(checks, almanac);
     sheet(checks, almanac);
+    pages(checks, almanac);
 }

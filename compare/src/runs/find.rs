@@ -1,0 +1,250 @@
+//! The program `find`, run on pages good and bad; what it prints is compared byte for byte.
+
+use crate::checks::Checks;
+use crate::random::Random;
+use crate::reference::almanac::Almanac;
+use crate::reference::page::{printed, Complaint, BODIES, TOO_LONG};
+
+use super::page_text::*;
+use super::programs::{self, shown};
+use super::queries::random_query;
+
+const PROGRAM: &str = "target/bin/find";
+
+/// The complaint's words are the program's own; what they are about is compared.
+fn compare_complaint(
+    checks: &mut Checks,
+    input: impl Fn() -> String,
+    complaint: Complaint,
+    error: &str,
+) {
+    let about = "what its standard error is about";
+    match complaint {
+        Complaint::Nothing => return checks.same("its standard error", input, "", error),
+        Complaint::OfLine(number) => {
+            let start = format!("line {number}: ");
+            let came: String = error.chars().take(start.len()).collect();
+            checks.same(about, &input, start, came);
+        }
+        Complaint::OfPage => checks.same(about, &input, false, error.starts_with("line ")),
+    }
+    let one_line = error.ends_with('\n') && error.lines().count() == 1;
+    checks.same("its standard error is one line", input, true, one_line);
+}
+
+fn compare_pieces(checks: &mut Checks, almanac: &Almanac, pieces: &[&[u8]]) {
+    let page = pieces.concat();
+    let expected = printed(almanac, &page);
+    let input = || format!("{}, in {} pieces", shown(&page), pieces.len());
+    let written = programs::run(checks, PROGRAM, input, pieces);
+    checks.same_lines(PROGRAM, input, &expected.output, &written.output);
+    compare_complaint(checks, input, expected.complaint, &written.error);
+}
+
+fn compare(checks: &mut Checks, almanac: &Almanac, page: &[u8]) {
+    compare_pieces(checks, almanac, &[page]);
+}
+
+/// A page of one line; a line that isn't a span has one before it, so that few days are looked at.
+fn compare_line(checks: &mut Checks, almanac: &Almanac, line: &str) {
+    let span = if line.starts_with("span") {
+        ""
+    } else {
+        "span 1000 1360\n"
+    };
+    compare(checks, almanac, format!("{span}{line}\n").as_bytes());
+}
+
+/// Each kind of line alone, at its edges and with a fault.
+fn lines(checks: &mut Checks, almanac: &Almanac) {
+    let sound = [&SPANS[..], &VALUES].concat();
+    let refused = [&NO_DATES[..], &DAYS_OUTSIDE, &REVERSED, &BAD_CONDITIONS].concat();
+    for line in [&sound[..], &refused, &OTHER_FORMS].concat() {
+        compare_line(checks, almanac, line);
+    }
+    for body in BODIES {
+        for arc in ARCS {
+            compare_line(checks, almanac, &format!("{body} {arc}"));
+        }
+    }
+}
+
+/// No value, one, two, three for each word; and each word twice, with the first line refused for
+/// its value.
+fn values(checks: &mut Checks, almanac: &Almanac) {
+    let words = ["span", "weekday", "tithi", "nakshatra", "yoga"];
+    for word in words.into_iter().chain(BODIES) {
+        for values in ["", " 5", " 5 6", " 5 6 7"] {
+            compare_line(checks, almanac, &format!("{word}{values}"));
+        }
+        for values in ["5", "5 6", "500000", "500000 0"] {
+            let twice = format!("{word} {values}\n#\n{word} {values}");
+            compare_line(checks, almanac, &twice);
+        }
+    }
+}
+
+/// Every byte as a blank, and in a number.
+fn bytes(checks: &mut Checks, almanac: &Almanac) {
+    for byte in 0..=255 {
+        for (before, after) in [("yoga", "3\n"), ("tithi 1", "\n")] {
+            let line = [before.as_bytes(), &[byte], after.as_bytes()].concat();
+            compare(checks, almanac, &[b"span 90 200\n", &line[..]].concat());
+        }
+    }
+}
+
+/// Ends, comments and blanks in odd places.
+fn odd(checks: &mut Checks, almanac: &Almanac) {
+    let pages: [&[u8]; 30] = [
+        b"span 5 9",
+        b"span 5 9\nweekday 1",
+        b"span 5 9\n ",
+        b"span 5 9\n#",
+        b"span 5 9\n# the end",
+        b"span 5 9\n\r",
+        b"span 5 9\n\0",
+        b"span 5 9\r\nweekday 1\r\n",
+        b"span 5 9\rweekday 1\n",
+        b"\n\n\nspan 5 9\n\n\n",
+        b"span 5 9#\n",
+        b"span 5#9\n",
+        b"span#5 9\n",
+        b"#span 5 9\nspan 6 7\n",
+        b"span 5 9 # 10\n",
+        b"span 5 9 10 # 10\n",
+        b"sp#an 5 9\n",
+        b"\r\t span\r\t 5\r\t 9\r\t \n",
+        b"span 5\n9\n",
+        b"weekday 9\n\n\nspan 9 5\n",
+        b"weekday 9\nspan 9 5\nspan 5 9\n",
+        b"weekday 9\ntithi 99\nyoga 99\nspan 5 9\n",
+        b"tithi x\ntithi 3\nspan 1582-10-10 9\n",
+        b"tithi 30\ntithi 3\nspan 5 9\n",
+        b"tithi 3\ntithi 30\nspan 5 9\n",
+        b"span 9 5\nspan 5 9\n",
+        b"span 5 9\nspan 1582-10-10 9\n",
+        b"weekday 1\nweekday tuesday\nspan 5 9\n",
+        b"\xEF\xBB\xBFspan 5 9\n",
+        b"s\0p\0a\0n\0 \05\0 \09\0\n\0",
+    ];
+    for page in pages {
+        compare(checks, almanac, page);
+    }
+}
+
+/// Pages over all days: with no condition, and with a few.
+fn all_days(checks: &mut Checks, almanac: &Almanac) {
+    let pages = [
+        "",
+        "weekday sunday\ntithi 29\n",
+        "sun 0 1:0:0\n",
+        "span 1520-3-19 2619-10-13\nsun 359:59:59 1\n",
+        "tithi 14\nnode 1200000 200000\nnakshatra 3\n",
+        "saturn 0 3600\njupiter 0 30:0:0\n",
+    ];
+    for page in pages {
+        compare(checks, almanac, page.as_bytes());
+    }
+}
+
+/// Many lines, long lines, and pages about the largest size.
+fn long(checks: &mut Checks, almanac: &Almanac) {
+    let comments = b"# a line of a long page\n".repeat(100_000);
+    let blanks = b" \t\r".repeat(650_000);
+    let span = b"span 1000 1360\n";
+    let pages: [&[&[u8]]; 9] = [
+        &[span, &comments, b"tithi 3\n"],
+        &[b"weekday 9\n", &comments, b"span 9 5\n"],
+        &[&b"\n".repeat(100_000), b"tithi 3\n", span, b"tithi 3\n"],
+        &[&comments, b"Tithi 3\n"],
+        &[b"span", &blanks, b"1000", &blanks, b"1001\n"],
+        &[b"span ", &b"0".repeat(3_000_000), b" 1\n"],
+        &[b"span ", &b"1 ".repeat(1_000_000), b"\n"],
+        &[&b"sun 0 0\n".repeat(100_000)],
+        &[span, b"#", &b"weekday 9 ".repeat(400_000), b"\n"],
+    ];
+    for pieces in pages {
+        compare(checks, almanac, &pieces.concat());
+    }
+    for length in [TOO_LONG - 1, TOO_LONG, TOO_LONG + 1, 5_000_000] {
+        for first in ["span 1000 1360\n", "weekday 9\n"] {
+            let mut page = [first.as_bytes(), &comments, &comments].concat();
+            page.resize(length - 1, b' ');
+            page.push(b'\n');
+            compare(checks, almanac, &page);
+        }
+        compare(checks, almanac, &b"\0".repeat(length));
+    }
+}
+
+/// A page is the same however the pipe hands it over.
+fn in_pieces(checks: &mut Checks, almanac: &Almanac) {
+    compare_pieces(checks, almanac, &[b"span 5 ", b"9\n"]);
+    compare_pieces(checks, almanac, &[b"span 5 9", b"\n"]);
+    compare_pieces(checks, almanac, &[b"sp", b"an 5 9\nweek", b"day ", b"1\n"]);
+    compare_pieces(checks, almanac, &[b"span 5 9\n", b"x"]);
+    let comments = b"# a line\n".repeat(20_000);
+    compare_pieces(
+        checks,
+        almanac,
+        &[&comments, b"span 5 9\n", &comments, b"span 9 5\n"],
+    );
+}
+
+/// The lines of a random query; any conditions, or one or two over a longer span.
+fn random_lines(random: &mut Random, almanac: &Almanac) -> Vec<Line> {
+    let (given, most) = if random.once_in(2) {
+        (random.below(1 << 13), 400)
+    } else {
+        (1 << random.below(13) | 1 << random.below(13), 3000)
+    };
+    let query = random_query(random, almanac, given, most);
+    lines_of(random, almanac, &query)
+}
+
+/// Replaces or adds lines that are refused, of one to four kinds.
+fn spoil(random: &mut Random, lines: &mut Vec<Line>) {
+    let kinds: [&[&str]; 5] = [
+        &OTHER_FORMS,
+        &NO_DATES,
+        &DAYS_OUTSIDE,
+        &REVERSED,
+        &BAD_CONDITIONS,
+    ];
+    // A graver refusal hides the others: a page draws from all kinds, or from the lighter ones.
+    let first = random.one_of(&[0, 1, 1, 4]);
+    for _ in 0..random.between(1, 4) {
+        let kind = random.between(first, 4) as usize;
+        let line = words(random.one_of(kinds[kind]));
+        put(random, lines, line);
+    }
+}
+
+fn random_pages(checks: &mut Checks, almanac: &Almanac) {
+    let mut random = Random::from_seed();
+    for round in 0..900 {
+        let mut lines = random_lines(&mut random, almanac);
+        if round % 3 == 1 {
+            spoil(&mut random, &mut lines);
+        }
+        let mut page = page_of(&mut random, lines);
+        if round % 3 == 2 {
+            for _ in 0..random.between(1, 3) {
+                damage(&mut random, &mut page);
+            }
+        }
+        compare(checks, almanac, &page);
+    }
+}
+
+pub fn run(checks: &mut Checks, almanac: &Almanac) {
+    lines(checks, almanac);
+    values(checks, almanac);
+    bytes(checks, almanac);
+    odd(checks, almanac);
+    all_days(checks, almanac);
+    long(checks, almanac);
+    in_pieces(checks, almanac);
+    random_pages(checks, almanac);
+}

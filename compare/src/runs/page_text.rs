@@ -1,0 +1,399 @@
+//! Pages to be read: queries written in words, in each form that a value has, with blanks and
+//! comments in odd places; lines at the edges and with faults; and damage by single bytes.
+
+use crate::random::Random;
+use crate::reference::almanac::Almanac;
+use crate::reference::page::{BODIES, WEEKDAYS};
+use crate::reference::search::Query;
+
+/// A line's words, which are to be separated by blanks.
+pub type Line = Vec<String>;
+
+/// Spans that are accepted, of few days.
+pub const SPANS: [&str; 16] = [
+    "span 0 0",
+    "span 401599 401599",
+    "span 000401599 000401599",
+    "span 401590 2619-10-13",
+    "span 1520-3-19 1520-3-19",
+    "span 01520-003-0019 00",
+    "span 2619-10-13 2619-10-13",
+    "span 1582-10-4 1582-10-15",
+    "span 22844 1582-10-15",
+    "span 1582-9-30 22850",
+    "span 1600-2-28 1600-3-1",
+    "span 1580-2-29 1580-3-1",
+    "span 1700-2-28 1700-3-1",
+    "span 2000-2-29 2000-2-29",
+    "span 000001999-000000012-000000031 2000-1-1",
+    "span 1612-5-14 33649",
+];
+
+/// Conditions that are accepted, but for the bodies'.
+pub const VALUES: [&str; 19] = [
+    "weekday 0",
+    "weekday 6",
+    "weekday 000000003",
+    "weekday monday",
+    "weekday tuesday",
+    "weekday wednesday",
+    "weekday thursday",
+    "weekday friday",
+    "weekday saturday",
+    "weekday sunday",
+    "tithi 0",
+    "tithi 29",
+    "tithi 000000014",
+    "nakshatra 0",
+    "nakshatra 26",
+    "nakshatra 007",
+    "yoga 0",
+    "yoga 26",
+    "yoga 01",
+];
+
+/// Arcs that are accepted.
+pub const ARCS: [&str; 7] = [
+    "0 1296000",
+    "1295999 1",
+    "359:59:59 360:0:0",
+    "0:0:0 180:0:0",
+    "1000000 000600000",
+    "00300:000000059:059 0000000:0:000000001",
+    "270:30:30 90:59:59",
+];
+
+/// Refused with 3. Some words are joined by what is no blank.
+pub const OTHER_FORMS: [&str; 97] = [
+    "Span 10 20",
+    "SPAN 10 20",
+    "spans 10 20",
+    "spa 10 20",
+    "span 10",
+    "span",
+    "span 10 20 30",
+    "span 10 -20",
+    "span +10 20",
+    "span 10-20",
+    "span 1520-3 20",
+    "span 1520-3-19-0 20",
+    "span 1520--19 20",
+    "span -3-19 20",
+    "span 1520-3- 20",
+    "span - 20",
+    "span 10 --",
+    "span 1520:3:19 20",
+    "span 1520-3:19 20",
+    "span 1520:3-19 20",
+    "span 1520/3/19 20",
+    "span 1520-march-19 1530-1-1",
+    "span 10 1520-3-0000000019",
+    "span 1234567890-1-1 20",
+    "span 1234567890 20",
+    "span 0000000010 20",
+    "span monday 20",
+    "span 1582-10-10 x",
+    "span x 2619-10-14",
+    "span 20 10 0",
+    "Weekday 1",
+    "weekdays 1",
+    "weekday",
+    "weekday 1 2",
+    "weekday Monday",
+    "weekday SUNDAY",
+    "weekday mon",
+    "weekday mondays",
+    "weekday 1.",
+    "weekday 7 7",
+    "weekday monday tuesday",
+    "tithi",
+    "tithi 3 4",
+    "tithi 30 30",
+    "tithi -1",
+    "tithi +1",
+    "tithi 3,",
+    "tithi 3.0",
+    "tithi 0x3",
+    "tithi 3e0",
+    "tithi 0000000003",
+    "tithi 1234567890",
+    "tithi 4294967299",
+    "tithi 18446744073709551619",
+    "tithi monday",
+    "tithi \u{663}",
+    "tithi \u{ff13}",
+    "tithi 3\0",
+    "tithi \0 3",
+    "\0",
+    "tithi\u{b}3",
+    "tithi 3\u{c}",
+    "tithi\u{a0}3",
+    "tithi\u{85}3",
+    "\u{feff}tithi 3",
+    "tithi=3",
+    "tithi: 3",
+    "nakshatra 1-2-3",
+    "nakshatra",
+    "yoga 1:2:3",
+    "yoga 1 1",
+    "karana 3",
+    "rahu 1 2",
+    "Mars 1 2",
+    "sun",
+    "sun 5",
+    "sun 1 2 3",
+    "sun 0 0 0",
+    "sun 1000:0:0 5",
+    "moon 5 000001000:0:0",
+    "moon 0000000001:0:0 5",
+    "apogee 1:60:0 5",
+    "apogee 5 1:0:60",
+    "node 1:2 5",
+    "node 1:2:3:4 5",
+    "mars 1::3 5",
+    "mars :2:3 5",
+    "mercury 5 1:2:",
+    "mercury :: 5",
+    "jupiter 1-2-3 5",
+    "jupiter 1:2-3 5",
+    "jupiter 1-2:3 5",
+    "venus -5 5",
+    "venus 5 1:+2:3",
+    "saturn 1234567890 5",
+    "saturn 5 5.5",
+    "3 tithi",
+];
+
+/// Refused with 1.
+pub const NO_DATES: [&str; 22] = [
+    "span 1582-10-10 1600-1-1",
+    "span 1582-10-5 1582-10-15",
+    "span 1582-10-4 1582-10-14",
+    "span 1700-2-29 1700-3-1",
+    "span 1700-2-28 1700-2-29",
+    "span 1900-2-29 5",
+    "span 5 2100-2-29",
+    "span 1600-2-30 1600-3-1",
+    "span 1601-2-29 1602-1-1",
+    "span 1601-4-31 1602-1-1",
+    "span 1601-1-32 1602-1-1",
+    "span 1601-1-0 1602-1-1",
+    "span 1601-0-1 1602-1-1",
+    "span 1601-13-1 1602-1-1",
+    "span 1601-257-1 1602-1-1",
+    "span 1601-1-257 1602-1-1",
+    "span 1601-999999999-999999999 5",
+    "span 0-0-0 0-0-0",
+    "span 2619-10-14 1582-10-10",
+    "span 1582-10-10 1520-3-18",
+    "span 401600 1582-10-10",
+    "span 999999999-2-29 999999999",
+];
+
+/// Refused with 2.
+pub const DAYS_OUTSIDE: [&str; 16] = [
+    "span 1520-3-18 1520-3-20",
+    "span 2619-10-13 2619-10-14",
+    "span 2619-10-14 1520-3-18",
+    "span 1520-3-18 401600",
+    "span 401600 2619-10-14",
+    "span 0 401600",
+    "span 401600 0",
+    "span 401600 401601",
+    "span 999999999 5",
+    "span 5 999999999",
+    "span 5 67510464",
+    "span 1500-2-29 5",
+    "span 0-2-29 0-3-1",
+    "span 1-1-1 1520-3-19",
+    "span 5 999999999-12-31",
+    "span 67056-1-1 5",
+];
+
+/// Refused with 5.
+pub const REVERSED: [&str; 7] = [
+    "span 1 0",
+    "span 401599 0",
+    "span 000000002 1",
+    "span 1520-3-20 1520-3-19",
+    "span 1582-10-15 1582-10-4",
+    "span 22845 1582-10-4",
+    "span 2619-10-13 401598",
+];
+
+/// Refused with 6.
+pub const BAD_CONDITIONS: [&str; 24] = [
+    "weekday 7",
+    "weekday 257",
+    "weekday 999999999",
+    "tithi 30",
+    "tithi 256",
+    "nakshatra 27",
+    "nakshatra 999999999",
+    "yoga 27",
+    "yoga 65536",
+    "sun 1296000 1",
+    "sun 0 1296001",
+    "sun 5 0",
+    "moon 360:0:0 1",
+    "moon 0 360:0:1",
+    "apogee 359:59:59 0:0:0",
+    "node 999:59:59 1",
+    "node 0 999:59:59",
+    "mars 999999999 999999999",
+    "mercury 1296000 0",
+    "mercury 1 000000000",
+    "jupiter 0 1296001",
+    "venus 1296000 1296000",
+    "saturn 0 0",
+    "saturn 999999999 1",
+];
+
+const BLANKS: [&str; 8] = [" ", " ", " ", "\t", "\r", "   ", " \t ", "\r \r"];
+
+const INDENTS: [&str; 8] = ["", "", "", "", " ", "\t", "\r", " \t\r "];
+
+const TAILS: [&[u8]; 10] = [
+    b"",
+    b"",
+    b"",
+    b" ",
+    b"\r",
+    b" \t",
+    b"#",
+    b"# of a page",
+    b" ## weekday 9",
+    b"\t#\0\xFF\xC3# tithi",
+];
+
+const SILENT: [&[u8]; 9] = [
+    b"",
+    b" ",
+    b"\r",
+    b"\t \r\t",
+    b"#",
+    b"# span 5 3",
+    b"   # no words",
+    b"#weekday 7\r",
+    b"# \0\x80\xFF",
+];
+
+pub fn words(line: &str) -> Line {
+    line.split(' ').map(String::from).collect()
+}
+
+/// A number, sometimes with zeros before it, in 9 digits at most.
+fn number(random: &mut Random, number: u32) -> String {
+    let width = random.one_of(&[1, 1, 1, 1, 2, 5, 9]);
+    format!("{number:0width$}")
+}
+
+fn joined(random: &mut Random, numbers: [u32; 3], joint: &str) -> String {
+    numbers.map(|part| number(random, part)).join(joint)
+}
+
+/// A day by its number or its date.
+fn day(random: &mut Random, almanac: &Almanac, day: u32) -> String {
+    if random.once_in(2) {
+        number(random, day)
+    } else {
+        let date = almanac.days()[day as usize].date;
+        joined(random, [date.year, date.month, date.day], "-")
+    }
+}
+
+/// An arc's number in seconds or as D:M:S.
+fn angle(random: &mut Random, seconds: u32) -> String {
+    if random.once_in(2) {
+        number(random, seconds)
+    } else {
+        let parts = [seconds / 3600, seconds / 60 % 60, seconds % 60];
+        joined(random, parts, ":")
+    }
+}
+
+fn weekday(random: &mut Random, weekday: u32) -> String {
+    if random.once_in(2) {
+        number(random, weekday)
+    } else {
+        WEEKDAYS[weekday as usize].to_string()
+    }
+}
+
+/// The lines that say a query.
+pub fn lines_of(random: &mut Random, almanac: &Almanac, query: &Query) -> Vec<Line> {
+    let ends = [query.first, query.last].map(|end| day(random, almanac, end));
+    let mut lines = vec![Vec::from(ends)];
+    lines[0].insert(0, "span".to_string());
+    let mut add = |word: &str, values: Vec<String>| {
+        lines.push([vec![word.to_string()], values].concat());
+    };
+    if let Some(value) = query.weekday {
+        add("weekday", vec![weekday(random, value)]);
+    }
+    let limbs = [
+        ("tithi", query.tithi),
+        ("nakshatra", query.nakshatra),
+        ("yoga", query.yoga),
+    ];
+    for (word, limb) in limbs {
+        if let Some(value) = limb {
+            add(word, vec![number(random, value)]);
+        }
+    }
+    for (word, arc) in BODIES.into_iter().zip(query.arcs) {
+        if let Some(arc) = arc {
+            add(
+                word,
+                vec![angle(random, arc.start), angle(random, arc.width)],
+            );
+        }
+    }
+    lines
+}
+
+/// Puts a line in the place of that which has its word; sometimes beside it.
+pub fn put(random: &mut Random, lines: &mut Vec<Line>, line: Line) {
+    if !random.once_in(12) {
+        lines.retain(|other| other[0] != line[0]);
+    }
+    lines.push(line);
+}
+
+/// The lines in any order, with blanks and comments, and lines that say nothing between them.
+pub fn page_of(random: &mut Random, mut lines: Vec<Line>) -> Vec<u8> {
+    let mut page = Vec::new();
+    while !lines.is_empty() {
+        while random.once_in(4) {
+            page.extend(random.one_of(&SILENT));
+            page.push(b'\n');
+        }
+        let line = lines.swap_remove(random.below(lines.len() as u32) as usize);
+        page.extend(random.one_of(&INDENTS).bytes());
+        for (at, word) in line.iter().enumerate() {
+            if at > 0 {
+                page.extend(random.one_of(&BLANKS).bytes());
+            }
+            page.extend(word.bytes());
+        }
+        page.extend(random.one_of(&TAILS));
+        page.push(b'\n');
+    }
+    page
+}
+
+/// Changes, deletes or inserts a byte; mostly one that means something in a page.
+pub fn damage(random: &mut Random, page: &mut Vec<u8>) {
+    let at = random.below(page.len() as u32) as usize;
+    let byte = if random.once_in(3) {
+        random.below(256) as u8
+    } else {
+        random.one_of(b"\n\n\r\t  ##--::0019aeginstA\0\x0B\x80\xA0\xFF")
+    };
+    match random.below(4) {
+        0 => page[at] = byte,
+        1 => page[at] ^= 1 << random.below(8),
+        2 => drop(page.remove(at)),
+        _ => page.insert(at, byte),
+    }
+}

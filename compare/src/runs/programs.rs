@@ -1,0 +1,62 @@
+//! Runs a program that reads standard input.
+
+use std::io::{ErrorKind, Write};
+use std::process::{Command, Output, Stdio};
+use std::thread::sleep;
+use std::time::Duration;
+
+use crate::checks::Checks;
+
+/// What a program wrote. A byte that isn't text is replaced, and so differs from all that is
+/// expected.
+pub struct Written {
+    pub output: String,
+    pub error: String,
+}
+
+/// The program is handed the pieces with pauses between them.
+fn output_for(program: &str, pieces: &[&[u8]]) -> Output {
+    let mut running = Command::new(program)
+        .stdin(Stdio::piped())
+        .stdout(Stdio::piped())
+        .stderr(Stdio::piped())
+        .spawn()
+        .unwrap_or_else(|error| panic!("{program} can't be started: {error}"));
+    let mut input = running.stdin.take().expect("the input is a pipe");
+    for (at, piece) in pieces.iter().enumerate() {
+        if at > 0 {
+            sleep(Duration::from_millis(30));
+        }
+        match input.write_all(piece) {
+            Ok(()) => {}
+            // The program may have read enough to know its answer.
+            Err(error) if error.kind() == ErrorKind::BrokenPipe => break,
+            Err(error) => panic!("{program} can't be written to: {error}"),
+        }
+    }
+    drop(input);
+    running.wait_with_output().expect("the program ends")
+}
+
+/// Runs a program on an input that comes in pieces.
+pub fn run(
+    checks: &mut Checks,
+    program: &str,
+    input: impl FnOnce() -> String,
+    pieces: &[&[u8]],
+) -> Written {
+    let output = output_for(program, pieces);
+    let ended = output.status.code().is_some();
+    checks.same("it ends by no signal", input, true, ended);
+    let text = |bytes: &[u8]| String::from_utf8_lossy(bytes).into_owned();
+    Written {
+        output: text(&output.stdout),
+        error: text(&output.stderr),
+    }
+}
+
+/// An input as text for a message, cut where it is long.
+pub fn shown(input: &[u8]) -> String {
+    let start = &input[..input.len().min(600)];
+    format!("{} bytes, \"{}\"", input.len(), start.escape_ascii())
+}
