@@ -133,8 +133,8 @@ fn odd(checks: &mut Checks, almanac: &Almanac) {
     }
 }
 
-/// Pages over all days: with no condition, and with a few.
-fn all_days(checks: &mut Checks, almanac: &Almanac) {
+/// Pages over all days or many: with no condition, with a few, and the examples of docs/find.md.
+fn many_days(checks: &mut Checks, almanac: &Almanac) {
     let pages = [
         "",
         "weekday sunday\ntithi 29\n",
@@ -142,6 +142,9 @@ fn all_days(checks: &mut Checks, almanac: &Almanac) {
         "span 1520-3-19 2619-10-13\nsun 359:59:59 1\n",
         "tithi 14\nnode 1200000 200000\nnakshatra 3\n",
         "saturn 0 3600\njupiter 0 30:0:0\n",
+        "# Bombay, fol. 3: upper half\nweekday monday\ntithi 14\nsun 34:0:0 1:0:0\n",
+        "span 1607-4-15 1612-12-31\nweekday thursday\nnakshatra 7      # Pushya\nyoga 4\n",
+        "jupiter 100:0:0  1:0:0\nsaturn  360000  3600\ntithi   12\n",
     ];
     for page in pages {
         compare(checks, almanac, page.as_bytes());
@@ -243,7 +246,7 @@ pub fn run(checks: &mut Checks, almanac: &Almanac) {
     values(checks, almanac);
     bytes(checks, almanac);
     odd(checks, almanac);
-    all_days(checks, almanac);
+    many_days(checks, almanac);
     long(checks, almanac);
     in_pieces(checks, almanac);
     random_pages(checks, almanac);
