@@ -1,4 +1,4 @@
-// A torn almanac page as a person writes it down: the text of a page to a query, and a day that was found to a line of output.
+// A torn almanac page as a person writes it down: the text of a page to a query.
 use days::Day;
 use days::refusal;
 use query::Arc;
