@@ -17,7 +17,7 @@ use words::run;
 use words::up_to;
 ghost use mathlib.Core.Path.{_≡_};
 ghost use Prim.Native.Nat.{_<_};
-ghost use Rattle.page.specs.Page.{conditions, everyDay, onlySpan, placed as placedIn, rank as rankOf, graver as graverOf, firstValue, secondValue, otherForm, conditionRead, lineRead, graverFault, faulted as faultedBy, withLine, emptyPage, pageGives, pageRead};
+ghost use Rattle.page.specs.Page.{conditions, onlySpan, placed as placedIn, rank as rankOf, graver as graverOf, firstValue, secondValue, otherForm, conditionRead, lineRead, graverFault, faulted as faultedBy, withLine, emptyPage, pageGives, pageRead};
 
 // The words that a line begins with, each a condition, known by its place among them.
 const KEYWORDS: [u8; 88] =

@@ -7,7 +7,6 @@ use words::behind;
 use words::place_in;
 use words::up_to;
 ghost use mathlib.Core.Path.{_≡_};
-ghost use Rattle.text.specs.Decimal.{badNumber};
 ghost use Rattle.values.specs.Values.{threeRead, sexagesimal as sexagesimalOf, angleRead, dateRead, dayRead, weekdayRead, noneRead};
 
 pub const WEEKDAYS: [u8; 56] = *b"monday tuesday wednesday thursday friday saturday sunday";

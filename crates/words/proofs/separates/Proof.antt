@@ -1,5 +1,4 @@
 -- `separates` meets its contract: each answer by the tests before it. Assumes nothing.
-use mathlib.Core.Path.{refl}
 use borrow.Author.Tests.{eq-eqb, ne-eqb}
 use Rattle.words.specs.Words.{separates}
 use Rattle.words.proofs.separates.Statement.{statement}
