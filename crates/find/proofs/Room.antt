@@ -1,37 +1,34 @@
--- A search that is not refused has an entry in its list for each day found. Assumes nothing.
-use mathlib.Core.Path.{_≡_, refl, sym, _∙_}
-use mathlib.Core.Bool.{Bool, true, false}
+-- A page that is accepted has a query that the search does not refuse, and a list with an entry for every day there is has
+-- one for each day found. Assumes nothing.
+use mathlib.Core.Path.{_≡_}
 use mathlib.Core.List.{List}
-use Prim.Native.Nat.{ℕ, _*_, _/_, _≤_}
+use Prim.Native.Nat.{ℕ, _*_, _/_, _-_, _≤_}
 use native.Mathlib.Omega.{arith}
-use borrow.Author.Tests.{leb-true}
-use lib.Dec.{eqb, leb}
+use borrow.Author.Tests.{eq-eqb, lt-ltb}
 use lib.ListN.{length}
+use Rattle.page.specs.declared.PageRead.{PageRead}
+use Rattle.page.specs.Page.{pageRead}
+use Rattle.page.proofs.Accepted.{accepted-page}
 use Rattle.query.specs.declared.Query.{Query}
 use Rattle.query.specs.Query.{refusalOf}
 use Rattle.search.specs.declared.Found.{Found}
 use Rattle.search.specs.Days.{matchingDays}
-use Rattle.search.specs.Search.{resultOf, told, Searched}
+use Rattle.search.specs.Search.{told, Searched}
+use Rattle.search.proofs.Answers.{accepted-by, roomy-fits}
 
-accepted-fits : (q : Query) (room : ℕ) → resultOf q room ≡ 0 → told q (length (matchingDays q)) ≤ room
-unfolding resultOf
-accepted-fits q room r = go (eqb (refusalOf q) 0) refl (leb (length (matchingDays q)) room) refl
-  where
-    go :
-        (t : Bool) →
-        eqb (refusalOf q) 0 ≡ t →
-        (u : Bool) →
-        leb (length (matchingDays q)) room ≡ u →
-        told q (length (matchingDays q)) ≤ room
-    go true e true f = rw e (leb-true _ _ f)
-    go true e false f = absurd (let z : _≡_ {A = ℕ} 7 0 = rw (e, f) at r in omega arith)
-    go false e u f = rw e (omega arith)
+pub accepted-query : (text : List ℕ) (read : PageRead) → read ≡ pageRead text → read .refusal ≡ 0 → refusalOf (read .query) ≡ 0
+accepted-query text read e r = rw e (accepted-page text (rw e at r))
+
+told-all : (q : Query) (n : ℕ) → refusalOf q ≡ 0 → told q n ≡ n
+told-all q n h = rw (eq-eqb (refusalOf q) 0 h)
 
 pub entries-found :
     (q : Query) (before : List ℕ) (found : Found) (after : List ℕ) →
     Searched q before found after →
-    found .refusal ≡ 0 →
+    refusalOf q ≡ 0 →
+    1606400 ≤ length before →
     length after ≡ length before →
     4 * found .length ≤ length after
-entries-found q before found after s r same =
-    omega (arith, s .count, accepted-fits q (length before / 4) (sym (s .result) ∙ r))
+entries-found q before found after s h room same =
+    let fits = roomy-fits q (length before / 4) h (lt-ltb (q .last - q .first) (length before / 4) (omega (arith, accepted-by q h .last))) in
+    omega (arith, s .count, told-all q (length (matchingDays q)) h)

@@ -10,6 +10,7 @@ use text::Line;
 ghost use Prim.Native.Nat.{_+_, _*_, _≤_, _<_};
 ghost use lib.ListN.{length};
 ghost use mathlib.Core.Path.{_≡_};
+ghost use Rattle.query.specs.Query.{refusalOf};
 
 // A page has fewer bytes.
 const INPUT: usize = 4194304;
@@ -153,19 +154,20 @@ fn refuse(read: PageRead) {
     write_line(STDERR_FILENO, with_reason(place, read.refusal, read.reason));
 }
 
-fn print_found(query: Query, list: &mut [u8]) {
+// The list has an entry for every day there is, so the search refuses nothing.
+fn print_found(query: Query, list: &mut [u8])
+    requires { ⌜ (refusalOf query ≡ 0) × (1606400 ≤ length (now list)) ⌝ }
+{
     let found = search::search(query, list);
-    if found.refusal != refusal::NONE {
-        write_line(STDOUT_FILENO, sheet::refusal_line(found.refusal));
-        return;
-    }
     let mut buffer = io::large_buffer();
     if !print_days(found, list, &mut buffer) {
         io::write_all(STDERR_FILENO, b"not all could be written\n");
     }
 }
 
-fn find_days(query: Query) {
+fn find_days(query: Query)
+    requires { ⌜ refusalOf query ≡ 0 ⌝ }
+{
     let mut list = [0u8; LIST];
     print_found(query, &mut list);
 }

@@ -8,18 +8,6 @@ use Rattle.find.proofs.print_found.Tie as tie
 search-requires : tie.Need-search-requires
 search-requires c κs = search needs
 
-refusal-line-requires : tie.Need-refusal-line-requires
-refusal-line-requires c κs = search needs
-
-write-line-requires : tie.Need-write-line-requires
-write-line-requires c κs = search needs
-
-same-length : tie.Need-same-length
-same-length c = search needs
-
-returns : tie.Need-returns
-returns c = search needs
-
 large-buffer-requires : tie.Need-large-buffer-requires
 large-buffer-requires c κs = search needs
 
@@ -27,7 +15,7 @@ slice-aggregate-print-days : tie.Need-slice-aggregate-print-days
 slice-aggregate-print-days c = search needs
 
 print-days-requires : tie.Need-print-days-requires
-print-days-requires c κs = (entries-found _ _ _ _ (c .before .before .before .before .before .before .before .search .ensures) (c .before .before .before .if1 .left) (c .before .before .before .before .before .before .before .search .kept .1 .0), omega (arith, c .before .before .large-buffer .ensures))
+print-days-requires c κs = (entries-found _ _ _ _ (c .before .before .before .before .before .search .ensures) (c .before .before .before .before .before .before .before .before .pre .0) (c .before .before .before .before .before .before .before .before .pre .1) (c .before .before .before .before .before .search .kept .1 .0), omega (arith, c .before .before .large-buffer .ensures))
 
 slice-aggregate-write-all : tie.Need-slice-aggregate-write-all
 slice-aggregate-write-all c = search needs
@@ -35,33 +23,29 @@ slice-aggregate-write-all c = search needs
 write-all-requires : tie.Need-write-all-requires
 write-all-requires c κs = search needs
 
+same-length : tie.Need-same-length
+same-length c = search needs
+
+returns : tie.Need-returns
+returns c = search needs
+
 same-length-2 : tie.Need-same-length-2
 same-length-2 c = search needs
 
 returns-2 : tie.Need-returns-2
 returns-2 c = search needs
 
-same-length-3 : tie.Need-same-length-3
-same-length-3 c = search needs
-
-returns-3 : tie.Need-returns-3
-returns-3 c = search needs
-
 pub print-found-spec : {M : Type 1} → statement M
 print-found-spec =
     tie.close
     (tie.spec
     search-requires
-    refusal-line-requires
-    write-line-requires
-    same-length
-    returns
     large-buffer-requires
     slice-aggregate-print-days
     print-days-requires
     slice-aggregate-write-all
     write-all-requires
+    same-length
+    returns
     same-length-2
-    returns-2
-    same-length-3
-    returns-3)
+    returns-2)

@@ -1,0 +1,74 @@
+-- `read_and_find` is safe and ends: an accepted page's query is not refused. Assumes nothing.
+use Rattle.find.proofs.Room.{accepted-query}
+use borrow.Author.Needs.{needs}
+use Rattle.find.proofs.read_and_find.Statement.{statement}
+use Rattle.find.proofs.read_and_find.Tie as tie
+
+read-input-requires : tie.Need-read-input-requires
+read-input-requires c κs = search needs
+
+refusal-line-requires : tie.Need-refusal-line-requires
+refusal-line-requires c κs = search needs
+
+write-line-requires : tie.Need-write-line-requires
+write-line-requires c κs = search needs
+
+slice-aggregate-write-all : tie.Need-slice-aggregate-write-all
+slice-aggregate-write-all c = search needs
+
+write-all-requires : tie.Need-write-all-requires
+write-all-requires c κs = search needs
+
+same-length : tie.Need-same-length
+same-length c = search needs
+
+returns : tie.Need-returns
+returns c = search needs
+
+slice-reshare-prefix-read : tie.Need-slice-reshare-prefix-read
+slice-reshare-prefix-read c = search needs
+
+slice-aggregate-read : tie.Need-slice-aggregate-read
+slice-aggregate-read c = search needs
+
+read-requires : tie.Need-read-requires
+read-requires c κs = search needs
+
+refuse-requires : tie.Need-refuse-requires
+refuse-requires c κs = search needs
+
+same-length-2 : tie.Need-same-length-2
+same-length-2 c = search needs
+
+returns-2 : tie.Need-returns-2
+returns-2 c = search needs
+
+find-days-requires : tie.Need-find-days-requires
+find-days-requires c κs = accepted-query _ _ (c .before .before .read .ensures) (c .if2 .left)
+
+same-length-3 : tie.Need-same-length-3
+same-length-3 c = search needs
+
+returns-3 : tie.Need-returns-3
+returns-3 c = search needs
+
+pub read-and-find-spec : {M : Type 1} → statement M
+read-and-find-spec =
+    tie.close
+    (tie.spec
+    read-input-requires
+    refusal-line-requires
+    write-line-requires
+    slice-aggregate-write-all
+    write-all-requires
+    same-length
+    returns
+    slice-reshare-prefix-read
+    slice-aggregate-read
+    read-requires
+    refuse-requires
+    same-length-2
+    returns-2
+    find-days-requires
+    same-length-3
+    returns-3)
