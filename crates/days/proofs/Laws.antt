@@ -10,7 +10,7 @@ use borrow.Author.Tests.{ltb-true, lt-ltb, le-leb, lt-leb}
 use Rattle.days.specs.declared.Day.{Day}
 use Rattle.days.specs.declared.DayAnswer.{DayAnswer}
 use Rattle.days.specs.Refusals.{outOfRange}
-use Rattle.days.specs.Days.{cycleDays, cycles, lastDay, count, weekdayOn, pairAt, theDay, noDay, inRange, dayOf, nextOf}
+use Rattle.days.specs.Days.{cycleDays, cycles, lastDay, count, weekdayOn, pairAt, theDay, noDay, theNumber, noNumber, inRange, onDay, dayOf, nextOf}
 
 -- what a pair in range keeps to
 pub in-range : (d : Day) → inRange d ≡ true → (d .cycle < cycles) × (d .within < cycleDays)
@@ -36,6 +36,15 @@ day-of n h = rw (le-leb _ _ h)
 pub past-last : (n : ℕ) → lastDay < n → dayOf n ≡ noDay outOfRange
 unfolding dayOf
 past-last n h = rw (lt-leb _ _ h)
+
+-- a number of a day: given for a day in range, and refused for any other
+pub given : (f : Day → ℕ) (d : Day) → inRange d ≡ true → onDay f d ≡ theNumber (f d)
+unfolding onDay
+given f d e = rw e
+
+pub refused : (f : Day → ℕ) (d : Day) → inRange d ≡ false → onDay f d ≡ noNumber outOfRange
+unfolding onDay
+refused f d e = rw e
 
 -- an answer that is day n's, accepted: there is such a day, and it is its pair
 pub record ThatDay (n : ℕ) (answer : DayAnswer) : Type 0 where

@@ -57,14 +57,21 @@ inRange d = ltb (d .cycle) cycles && ltb (d .within) cycleDays
 unfoldable pub pairOf : ℕ → ℕ → DayAnswer
 pairOf C A = let d : Day = record { cycle = C; within = A } in cond (inRange d) (theDay d) (noDay outOfRange)
 
-unfoldable pub numberOf : Day → NumberAnswer
-numberOf d = cond (inRange d) (theNumber (count d)) (noNumber outOfRange)
+-- a number of a day: given for a day in range, else refused
+unfoldable pub onDay : (Day → ℕ) → Day → NumberAnswer
+onDay f d = cond (inRange d) (theNumber (f d)) (noNumber outOfRange)
 
-unfoldable pub julianDayOf : Day → NumberAnswer
-julianDayOf d = cond (inRange d) (theNumber (epochJulianDay + count d)) (noNumber outOfRange)
+abbrev pub numberOf : Day → NumberAnswer
+numberOf d = onDay count d
 
-unfoldable pub weekdayOf : Day → NumberAnswer
-weekdayOf d = cond (inRange d) (theNumber (weekdayOn (count d))) (noNumber outOfRange)
+abbrev pub julianDayOf : Day → NumberAnswer
+julianDayOf d = onDay (λ (e : Day). epochJulianDay + count e) d
+
+abbrev pub weekdayAt : Day → ℕ
+weekdayAt d = weekdayOn (count d)
+
+abbrev pub weekdayOf : Day → NumberAnswer
+weekdayOf d = onDay weekdayAt d
 
 -- the step: the day whose number is one more, which the last day has not
 unfoldable pub nextOf : Day → DayAnswer

@@ -29,10 +29,12 @@ const NO_DAY: DayAnswer = DayAnswer {
     },
 };
 
-const NO_NUMBER: NumberAnswer = NumberAnswer {
-    refusal: refusal::OUT_OF_RANGE,
-    number: 0,
-};
+impl NumberAnswer {
+    pub const OUT_OF_RANGE: NumberAnswer = NumberAnswer {
+        refusal: refusal::OUT_OF_RANGE,
+        number: 0,
+    };
+}
 
 impl Day {
     // Day 0: 19 March 1520 in the Julian calendar, a Monday.
@@ -99,7 +101,7 @@ impl Day {
                 number,
             }
         } else {
-            NO_NUMBER
+            NumberAnswer::OUT_OF_RANGE
         }
     }
 
@@ -113,7 +115,7 @@ impl Day {
                 number,
             }
         } else {
-            NO_NUMBER
+            NumberAnswer::OUT_OF_RANGE
         }
     }
 
@@ -122,13 +124,13 @@ impl Day {
         ensures { λ r. ⌜ r ≡ weekdayOf self ⌝ }
     {
         if self.in_range() {
-            let number = (5 * self.cycle + self.within) % 7;
+            let number = (Day::CYCLE_DAYS * self.cycle + self.within) % 7;
             NumberAnswer {
                 refusal: refusal::NONE,
                 number,
             }
         } else {
-            NO_NUMBER
+            NumberAnswer::OUT_OF_RANGE
         }
     }
 

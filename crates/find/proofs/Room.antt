@@ -14,7 +14,8 @@ use Rattle.query.specs.Query.{refusalOf}
 use Rattle.search.specs.declared.Found.{Found}
 use Rattle.search.specs.Days.{matchingDays}
 use Rattle.search.specs.Search.{told, Searched}
-use Rattle.search.proofs.Answers.{accepted-by, roomy-fits}
+use Rattle.query.proofs.Accepted.{accepted-by}
+use Rattle.search.proofs.Answers.{roomy-fits}
 
 pub accepted-query : (text : List ℕ) (read : PageRead) → read ≡ pageRead text → read .refusal ≡ 0 → refusalOf (read .query) ≡ 0
 accepted-query text read e r = rw e (accepted-page text (rw e at r))

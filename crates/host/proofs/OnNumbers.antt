@@ -1,18 +1,16 @@
 -- A number of a day's pair is the number of the day, by cases on whether there is such a day: past the last one its pair is out of range.
 -- Assumes nothing.
 use mathlib.Core.Bool.{false}
-use mathlib.Core.Path.{_≡_, refl, ap, _∙_}
+use mathlib.Core.Path.{_≡_, ap, _∙_}
 use Prim.Native.Nat.{ℕ, _<_, _≤_}
 use native.Mathlib.Decide.{decLe}
 use native.Mathlib.Omega.{arith}
 use borrow.Author.Tests.{le-leb, lt-leb, le-ltb}
 use Rattle.days.specs.declared.Day.{Day}
 use Rattle.days.specs.declared.NumberAnswer.{NumberAnswer}
-use Rattle.days.specs.Days.{cycles, lastDay, pairAt, inRange, weekdayOf}
-use Rattle.days.proofs.Laws.{pair-in-range}
-use Rattle.longitudes.specs.Answers.{onDay}
-use Rattle.longitudes.proofs.Answers.{given, refused}
-use Rattle.host.specs.Calls.{onNumber, weekdayAt}
+use Rattle.days.specs.Days.{cycles, lastDay, pairAt, inRange, onDay}
+use Rattle.days.proofs.Laws.{pair-in-range, given, refused}
+use Rattle.host.specs.Calls.{onNumber}
 
 pair-past-last : (n : ℕ) → lastDay < n → inRange (pairAt n) ≡ false
 unfolding inRange
@@ -28,7 +26,3 @@ on-number f n {a = a} p e = go (decLe n lastDay)
     go : Dec (n ≤ lastDay) → a .number ≡ onNumber f n
     go (yes h) = rw (le-leb _ _ h, answer ∙ given f (pairAt n) (pair-in-range n h))
     go (no h) = let k : lastDay < n = omega arith in rw (lt-leb _ _ k, answer ∙ refused f (pairAt n) (pair-past-last n k))
-
-pub weekday-on : (d : Day) → weekdayOf d ≡ onDay weekdayAt d
-unfolding weekdayOf onDay
-weekday-on d = refl

@@ -7,7 +7,7 @@ use lib.Dec.{leb}
 use Rattle.days.specs.declared.Day.{Day}
 use Rattle.days.specs.declared.DayAnswer.{DayAnswer}
 use Rattle.days.specs.declared.NumberAnswer.{NumberAnswer}
-use Rattle.days.specs.Days.{lastDay, count, weekdayOn, pairAt}
+use Rattle.days.specs.Days.{lastDay, pairAt}
 use Rattle.civil.specs.declared.Date.{Date}
 use Rattle.civil.specs.declared.DateAnswer.{DateAnswer}
 use Rattle.saka.specs.declared.LunarDate.{LunarDate}
@@ -24,9 +24,6 @@ lunarDate y m t w = record { year = y; months = m; tithis = t; weekday = w }
 -- a number of the day with the number n; 0 where there is no such day
 unfoldable pub onNumber : (Day → ℕ) → ℕ → ℕ
 onNumber f n = cond (leb n lastDay) (f (pairAt n)) 0
-
-abbrev pub weekdayAt : Day → ℕ
-weekdayAt d = weekdayOn (count d)
 
 -- an answer is the one meant, number by number
 pub record IsNumber (found meant : NumberAnswer) : Type 0 where

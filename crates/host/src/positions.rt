@@ -2,11 +2,11 @@
 use days::Day;
 use longitudes::Body;
 ghost use mathlib.Core.Path.{_≡_};
-ghost use Rattle.days.specs.Days.{pairAt};
+ghost use Rattle.days.specs.Days.{pairAt, weekdayAt};
 ghost use Rattle.longitudes.specs.Longitudes.{longitudeAt};
 ghost use Rattle.longitudes.specs.Answers.{bodyNumber};
 ghost use Rattle.panchanga.specs.OnDays.{trueSunAt, trueMoonAt, tithiAt, nakshatraAt, yogaAt, karanaAt};
-ghost use Rattle.host.specs.Calls.{onNumber, weekdayAt};
+ghost use Rattle.host.specs.Calls.{onNumber};
 
 // Past the last day it is out of range, and whatever takes it refuses it.
 fn pair(number: u32) -> Day

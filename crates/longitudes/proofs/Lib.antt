@@ -3,4 +3,3 @@ pub mod Table
 pub mod Motions
 pub mod Sun
 pub mod Subtraction
-pub mod Answers

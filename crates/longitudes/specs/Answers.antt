@@ -6,7 +6,7 @@ use lib.ListN.{replicate}
 use Rattle.days.specs.declared.Day.{Day}
 use Rattle.days.specs.declared.NumberAnswer.{NumberAnswer}
 use Rattle.days.specs.Refusals.{accepted, outOfRange}
-use Rattle.days.specs.Days.{inRange, theNumber, noNumber}
+use Rattle.days.specs.Days.{inRange, onDay}
 use Rattle.longitudes.specs.declared.Body.{Body}
 use Rattle.longitudes.specs.declared.Body.the-variants.{Sun, Moon, MoonApogee, MoonNode, Mars, MercuryAnomaly, Jupiter, VenusAnomaly, Saturn}
 use Rattle.longitudes.specs.declared.MeanLongitudes.{MeanLongitudes}
@@ -23,10 +23,6 @@ bodyNumber MercuryAnomaly = 5
 bodyNumber Jupiter = 6
 bodyNumber VenusAnomaly = 7
 bodyNumber Saturn = 8
-
--- a number of a day: given for a day in range, else refused
-unfoldable pub onDay : (Day → ℕ) → Day → NumberAnswer
-onDay f d = cond (inRange d) (theNumber (f d)) (noNumber outOfRange)
 
 abbrev pub longitudeOf : Body → Day → NumberAnswer
 longitudeOf b d = onDay (longitudeAt (bodyNumber b)) d

@@ -151,10 +151,7 @@ pub fn mean_longitude(body: Body, day: Day) -> NumberAnswer
             number: seconds,
         }
     } else {
-        NumberAnswer {
-            refusal: refusal::OUT_OF_RANGE,
-            number: 0,
-        }
+        NumberAnswer::OUT_OF_RANGE
     }
 }
 

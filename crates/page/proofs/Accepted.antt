@@ -19,7 +19,7 @@ use Rattle.query.specs.declared.Query.{Query}
 use Rattle.query.specs.Conditions.{askedInRange, arcAt, arcInRange, arcsInRange, conditionsInRange}
 use Rattle.query.specs.Query.{refusalOf}
 use Rattle.query.proofs.Conditions.{arcs-true, arcs-false}
-use Rattle.search.proofs.Answers.{accepted-by}
+use Rattle.query.proofs.Accepted.{accepted-by}
 use Rattle.text.specs.declared.NumberRead.{NumberRead}
 use Rattle.text.specs.Decimal.{isNumber, numberRead}
 use Rattle.values.specs.declared.Three.{Three}

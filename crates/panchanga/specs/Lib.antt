@@ -1,4 +1,3 @@
 pub mod TrueLongitudes
 pub mod Elements
 pub mod OnDays
-pub mod Single

@@ -5,10 +5,10 @@ use Prim.Native.Nat.{ℕ}
 use Rattle.days.specs.declared.Day.{Day}
 use Rattle.days.specs.declared.NumberAnswer.{NumberAnswer}
 use Rattle.days.specs.Refusals.{accepted, outOfRange}
-use Rattle.days.specs.Days.{inRange}
+use Rattle.days.specs.Days.{inRange, onDay}
 use Rattle.longitudes.specs.declared.Body.the-variants.{Sun, Moon, MoonApogee}
 use Rattle.longitudes.specs.Longitudes.{longitudeAt}
-use Rattle.longitudes.specs.Answers.{bodyNumber, onDay}
+use Rattle.longitudes.specs.Answers.{bodyNumber}
 use Rattle.panchanga.specs.declared.Panchanga.{Panchanga}
 use Rattle.panchanga.specs.TrueLongitudes.{trueSun, trueMoon}
 use Rattle.panchanga.specs.Elements.{tithi, nakshatra, yoga, karana}

@@ -7,13 +7,12 @@ use longitudes::CIRCLE;
 ghost use mathlib.Core.Path.{_≡_};
 ghost use mathlib.Core.Bool.{true};
 ghost use Prim.Native.Nat.{_<_, _≤_};
-ghost use Rattle.days.specs.Days.{inRange};
+ghost use Rattle.days.specs.Days.{inRange, theNumber};
 ghost use Rattle.longitudes.specs.Longitudes.{longitudeAt};
-ghost use Rattle.longitudes.specs.Answers.{bodyNumber, onDay};
-ghost use Rattle.panchanga.specs.TrueLongitudes.{bhuja, equation, corrected, trueLongitude};
+ghost use Rattle.longitudes.specs.Answers.{bodyNumber};
+ghost use Rattle.panchanga.specs.TrueLongitudes.{bhuja, bhujaProduct, equation, corrected, trueLongitude};
 ghost use Rattle.panchanga.specs.Elements.{tithi, nakshatra, yoga, karana, karanaAfter};
 ghost use Rattle.panchanga.specs.OnDays.{trueSunAt, trueMoonAt, trueSunOf, trueMoonOf, tithiOf, nakshatraOf, yogaOf, karanaOf, panchangaOf};
-ghost use Rattle.panchanga.specs.Single.{elementAt};
 
 // Sun and Moon are true longitudes; a refusal has all zeros.
 pub struct Panchanga {
@@ -28,8 +27,6 @@ pub struct Panchanga {
 
 const HALF: u32 = CIRCLE / 2;
 
-const QUARTER: u32 = CIRCLE / 4;
-
 // Each tithi is a thirtieth of a circle, each nakshatra and yoga a twenty-seventh, and a karana half a tithi.
 const TITHI: u32 = CIRCLE / 30;
 
@@ -39,19 +36,15 @@ const HALF_TITHI: u32 = CIRCLE / 60;
 
 const SUN_APOGEE: u32 = 280800;
 
-// An anomaly reduced to the first quarter: paper 01's s.
-fn first_quarter(anomaly: u32) -> u32
+// An anomaly less the half circle, where it is past it. Q is the same for s and 648000 − s, so the quarters need not be told apart.
+fn in_half(anomaly: u32) -> u32
     requires { ⌜ anomaly < 1296000 ⌝ }
-    ensures { λ r. ⌜ (r ≡ bhuja anomaly) × (r ≤ 324000) ⌝ }
+    ensures { λ r. ⌜ (bhujaProduct r ≡ bhujaProduct (bhuja anomaly)) × (r ≤ 648000) ⌝ }
 {
-    if anomaly <= QUARTER {
-        anomaly
-    } else if anomaly <= HALF {
-        HALF - anomaly
-    } else if anomaly <= HALF + QUARTER {
+    if HALF < anomaly {
         anomaly - HALF
     } else {
-        CIRCLE - anomaly
+        anomaly
     }
 }
 
@@ -60,7 +53,7 @@ fn equation_of(scale: u64, divisor: u64, anomaly: u32) -> u32
     requires { ⌜ (scale ≤ 72000) × ((522547200000 ≤ divisor) × (anomaly < 1296000)) ⌝ }
     ensures { λ r. ⌜ (r ≡ equation scale divisor anomaly) × (r < 1296000) ⌝ }
 {
-    let s = first_quarter(anomaly) as u64;
+    let s = in_half(anomaly) as u64;
     let q = s * (HALF as u64 - s);
     let seconds = scale * q / (divisor - q);
     seconds as u32
@@ -180,80 +173,71 @@ pub fn of_day(day: Day) -> Panchanga
     }
 }
 
-// What a single call asks for.
-enum Element {
-    TrueSun,
-    TrueMoon,
-    Tithi,
-    Nakshatra,
-    Yoga,
-    Karana,
-}
-
-// Only the places that the element needs are reckoned.
-fn element_on(element: Element, day: Day) -> u32
-    requires { ⌜ inRange day ≡ true ⌝ }
-    ensures { λ r. ⌜ r ≡ elementAt element day ⌝ }
+fn told(number: u32) -> NumberAnswer
+    ensures { λ r. ⌜ r ≡ theNumber number ⌝ }
 {
-    match element {
-        Element::TrueSun => sun_on(day),
-        Element::TrueMoon => moon_on(day),
-        Element::Tithi => tithi_of(sun_on(day), moon_on(day)),
-        Element::Nakshatra => nakshatra_of(moon_on(day)),
-        Element::Yoga => yoga_of(sun_on(day), moon_on(day)),
-        Element::Karana => karana_of(sun_on(day), moon_on(day)),
-    }
-}
-
-fn single(element: Element, day: Day) -> NumberAnswer
-    ensures { λ r. ⌜ r ≡ onDay (elementAt element) day ⌝ }
-{
-    if day.in_range() {
-        let number = element_on(element, day);
-        NumberAnswer {
-            refusal: refusal::NONE,
-            number,
-        }
-    } else {
-        NumberAnswer {
-            refusal: refusal::OUT_OF_RANGE,
-            number: 0,
-        }
+    NumberAnswer {
+        refusal: refusal::NONE,
+        number,
     }
 }
 
 pub fn true_sun(day: Day) -> NumberAnswer
     ensures { λ r. ⌜ r ≡ trueSunOf day ⌝ }
 {
-    single(Element::TrueSun, day)
+    if day.in_range() {
+        told(sun_on(day))
+    } else {
+        NumberAnswer::OUT_OF_RANGE
+    }
 }
 
 pub fn true_moon(day: Day) -> NumberAnswer
     ensures { λ r. ⌜ r ≡ trueMoonOf day ⌝ }
 {
-    single(Element::TrueMoon, day)
+    if day.in_range() {
+        told(moon_on(day))
+    } else {
+        NumberAnswer::OUT_OF_RANGE
+    }
 }
 
 pub fn tithi(day: Day) -> NumberAnswer
     ensures { λ r. ⌜ r ≡ tithiOf day ⌝ }
 {
-    single(Element::Tithi, day)
+    if day.in_range() {
+        told(tithi_of(sun_on(day), moon_on(day)))
+    } else {
+        NumberAnswer::OUT_OF_RANGE
+    }
 }
 
 pub fn nakshatra(day: Day) -> NumberAnswer
     ensures { λ r. ⌜ r ≡ nakshatraOf day ⌝ }
 {
-    single(Element::Nakshatra, day)
+    if day.in_range() {
+        told(nakshatra_of(moon_on(day)))
+    } else {
+        NumberAnswer::OUT_OF_RANGE
+    }
 }
 
 pub fn yoga(day: Day) -> NumberAnswer
     ensures { λ r. ⌜ r ≡ yogaOf day ⌝ }
 {
-    single(Element::Yoga, day)
+    if day.in_range() {
+        told(yoga_of(sun_on(day), moon_on(day)))
+    } else {
+        NumberAnswer::OUT_OF_RANGE
+    }
 }
 
 pub fn karana(day: Day) -> NumberAnswer
     ensures { λ r. ⌜ r ≡ karanaOf day ⌝ }
 {
-    single(Element::Karana, day)
+    if day.in_range() {
+        told(karana_of(sun_on(day), moon_on(day)))
+    } else {
+        NumberAnswer::OUT_OF_RANGE
+    }
 }

@@ -1,17 +1,20 @@
 -- A test of each of the nine bodies, by its outcomes; and a day's conditions from the outcomes of their tests, case by case.
 -- Assumes nothing.
-use mathlib.Core.Path.{_≡_, refl, sym, ap, _∙_}
-use mathlib.Core.Bool.{Bool, true, false, not, _&&_, and-true, and-false, true≢false, false≢true}
+use mathlib.Core.Path.{_≡_, sym, ap, _∙_}
+use mathlib.Core.Bool.{Bool, true, false, not, _&&_, and-true, and-false}
 use mathlib.Core.List.{List}
 use Prim.Native.Nat.{ℕ, zero, suc, _<_}
 use native.Mathlib.Omega.{arith}
 use lib.Dec.{lit<}
-use borrow.Author.Tests.{not-true}
+use borrow.Author.Tests.{not-true, eq-eqb, ne-eqb}
 use Rattle.days.specs.declared.Day.{Day}
-use Rattle.days.specs.Days.{inRange, pairAt, weekdayOn}
+use Rattle.days.specs.declared.DayAnswer.{DayAnswer}
+use Rattle.days.specs.Days.{inRange, pairAt, weekdayOn, weekdayAt}
+use Rattle.days.proofs.Laws.{ThatDay, count-pair}
 use Rattle.longitudes.specs.Longitudes.{longitudeAt}
 use Rattle.panchanga.specs.declared.Panchanga.{Panchanga}
 use Rattle.panchanga.specs.OnDays.{tithiAt, nakshatraAt, yogaAt, panchangaOf}
+use Rattle.query.specs.declared.Asked.{Asked}
 use Rattle.query.specs.declared.Arc.{Arc}
 use Rattle.query.specs.declared.Query.{Query}
 use Rattle.query.specs.Conditions.{eachBody, meets, within, arcAt, arcInRange, arcsInRange, arcsMet, elementsMet, AsksNoMore}
@@ -112,7 +115,24 @@ module _ (q : Query) (d : Day) (found : Bool) (e : (within (arcAt (q .arcs) 0) (
       ap (λ (b : Bool). sun && b) g
       ∙ ap (λ (b : Bool). b && elementsMet q d) (sym (and-true sun) ∙ ap (λ (b : Bool). sun && b) (sym f) ∙ e)
 
--- nothing more asked: the Sun's arc and the weekday decide
+-- the weekday of a day, asked for and met, or another; or none asked for
+module _ (asked : Asked) (n : ℕ) (answer : DayAnswer) (known : ThatDay n answer) (found : ℕ) (e : found ≡ weekdayAt (answer .day)) (g : asked .given ≡ true) where
+  on-day : found ≡ weekdayOn n
+  on-day = e ∙ ap weekdayAt (known .pair) ∙ ap weekdayOn (count-pair n)
+
+  pub weekday-asked : found ≡ asked .value → meets asked (weekdayOn n) ≡ true
+  unfolding meets
+  weekday-asked v = rw g (eq-eqb _ _ (sym on-day ∙ v))
+
+  pub weekday-another : (found ≡ asked .value → ⊥) → meets asked (weekdayOn n) ≡ false
+  unfolding meets
+  weekday-another v = rw g (ne-eqb _ _ (λ w. v (on-day ∙ w)))
+
+pub not-asked : (asked : Asked) (n : ℕ) → asked .given ≡ false → meets asked n ≡ true
+unfolding meets
+not-asked asked n g = rw g
+
+-- a weekday that is not met decides, and one that is met does where nothing more is asked
 module _ (q : Query) (n : ℕ) where
   pub weekday-not-met : meets (q .weekday) (weekdayOn n) ≡ false → (sunInArc q n && false) ≡ matches q n
   unfolding matches
@@ -121,19 +141,3 @@ module _ (q : Query) (n : ℕ) where
   pub no-more : AsksNoMore q → meets (q .weekday) (weekdayOn n) ≡ true → (sunInArc q n && true) ≡ matches q n
   unfolding matches elementsMet meets sunInArc
   no-more a w = rw (w, a .tithi, a .nakshatra, a .yoga) (no-arcs (q .arcs) (pairAt n) (a .arcs) ∙ sym (and-true (arcsMet (q .arcs) (pairAt n))))
-
-  -- where the weekday decides, and where it leaves more to ask
-  pub decided : (more : Bool) → (more ≡ false → AsksNoMore q) → not (meets (q .weekday) (weekdayOn n) && more) ≡ true → (sunInArc q n && (meets (q .weekday) (weekdayOn n) && not more)) ≡ matches q n
-  decided more a y = go (meets (q .weekday) (weekdayOn n)) more refl a y
-    where
-      go : (w m : Bool) → meets (q .weekday) (weekdayOn n) ≡ w → (m ≡ false → AsksNoMore q) → not (w && m) ≡ true → (sunInArc q n && (w && not m)) ≡ matches q n
-      go false m e a y = weekday-not-met e
-      go true false e a y = no-more (a refl) e
-      go true true e a y = absurd (false≢true y)
-
-  pub undecided : (more : Bool) → not (meets (q .weekday) (weekdayOn n) && more) ≡ false → meets (q .weekday) (weekdayOn n) ≡ true
-  undecided more y = go (meets (q .weekday) (weekdayOn n)) refl y
-    where
-      go : (w : Bool) → meets (q .weekday) (weekdayOn n) ≡ w → not (w && more) ≡ false → meets (q .weekday) (weekdayOn n) ≡ true
-      go true e y = e
-      go false e y = absurd (true≢false y)

@@ -1,2 +1,3 @@
 pub mod Conditions
 pub mod Scan
+pub mod Accepted

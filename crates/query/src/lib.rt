@@ -4,9 +4,9 @@ use days::refusal;
 use longitudes::Body;
 use longitudes::CIRCLE;
 ghost use mathlib.Core.Path.{_≡_};
-ghost use mathlib.Core.Bool.{true, false, not, _&&_};
+ghost use mathlib.Core.Bool.{true, false, _&&_};
 ghost use Prim.Native.Nat.{ℕ, _<_};
-ghost use Rattle.days.specs.Days.{inRange, weekdayOn};
+ghost use Rattle.days.specs.Days.{inRange, weekdayAt};
 ghost use Rattle.longitudes.specs.Longitudes.{difference, longitudeAt};
 ghost use Rattle.longitudes.specs.Answers.{bodyNumber};
 ghost use Rattle.panchanga.specs.OnDays.{nakshatraAt};
@@ -235,14 +235,12 @@ fn nakshatra_met(asked: Asked, day: Day) -> bool
     }
 }
 
-fn weekday_met(asked: Asked, number: u32) -> bool
-    ensures { λ r. ⌜ r ≡ meets asked (weekdayOn number) ⌝ }
+fn weekday_on(day: Day) -> u32
+    requires { ⌜ inRange day ≡ true ⌝ }
+    ensures { λ r. ⌜ r ≡ weekdayAt day ⌝ }
 {
-    if asked.given {
-        number % 7 == asked.value
-    } else {
-        true
-    }
+    let weekday = day.weekday();
+    weekday.number
 }
 
 // The conditions that are dear to test: the other bodies' arcs, then the elements.
@@ -274,28 +272,6 @@ fn asks_more(query: Query) -> bool
     other_arcs_given(arcs)
 }
 
-// What the weekday alone tells of a day with the Sun in its arc: it is decided where the weekday is another, or nothing more is asked.
-struct Decided {
-    yes: bool,
-    matches: bool,
-}
-
-fn by_weekday(weekday: Asked, more: bool, number: u32) -> Decided
-    ensures { λ r. ⌜ r ≡ record { yes = not (meets weekday (weekdayOn number) && more); matches = meets weekday (weekdayOn number) && not more } ⌝ }
-{
-    if weekday_met(weekday, number) {
-        Decided {
-            yes: !more,
-            matches: !more,
-        }
-    } else {
-        Decided {
-            yes: true,
-            matches: false,
-        }
-    }
-}
-
 fn told(matches: bool, next: u32) -> Examined
     ensures { λ r. ⌜ r ≡ record { refusal = 0; matches = matches; next = next } ⌝ }
 {
@@ -319,22 +295,30 @@ pub fn examine(query: Query, day: u32) -> Examined
             next: 0,
         };
     }
-    let weekday = query.weekday;
+    let asked = query.weekday;
     let more = asks_more(query);
     let arc = query.arcs[0];
     if !arc.given {
-        let decided = by_weekday(weekday, more, day);
-        if decided.yes {
-            return told(decided.matches, day + 1);
+        if asked.given {
+            if weekday_on(pair.day) != asked.value {
+                return told(false, day + 1);
+            }
+        }
+        if !more {
+            return told(true, day + 1);
         }
         return told(others_met(query, pair.day), day + 1);
     }
     let sun = longitudes::mean_longitude(Body::Sun, pair.day);
     let past = longitudes::difference(sun.number, arc.start);
     if past < arc.width {
-        let decided = by_weekday(weekday, more, day);
-        if decided.yes {
-            return told(decided.matches, day + 1);
+        if asked.given {
+            if weekday_on(pair.day) != asked.value {
+                return told(false, day + 1);
+            }
+        }
+        if !more {
+            return told(true, day + 1);
         }
         return told(others_met(query, pair.day), day + 1);
     }

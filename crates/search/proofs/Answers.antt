@@ -15,52 +15,9 @@ use Rattle.query.specs.Query.{matches, refusalOf}
 use Rattle.search.specs.declared.Tally.{Tally}
 use Rattle.search.specs.Days.{filtered, daysFrom, spanLength, matchingDays, visitedDays, visitLimit, Tallied}
 use Rattle.search.specs.Search.{withEntries, capacity, resultOf, listAfter, Measured, Searched}
-use Rattle.search.proofs.Arc.{sunArc}
+use Rattle.query.proofs.Accepted.{accepted-by, accepts}
 use Rattle.search.proofs.Filter.{filtered-end, filtered-short}
 use Rattle.search.proofs.Limit.{visits-limited}
-
-and-right : (a b : Bool) → (a && b) ≡ true → b ≡ true
-and-right true b e = e
-and-right false b e = absurd (false≢true e)
-
-and-left : (a b : Bool) → (a && b) ≡ true → a ≡ true
-and-left true b e = refl
-and-left false b e = e
-
--- a query that is not refused: its days and the Sun's arc are in range
-pub record Accepted (q : Query) : Type 0 where
-  pub first : q .first ≤ q .last
-  pub last : q .last ≤ lastDay
-  pub sun : arcInRange (sunArc q) ≡ true
-  pub conditions : conditionsInRange q ≡ true
-
-sun-of : (q : Query) → conditionsInRange q ≡ true → arcInRange (sunArc q) ≡ true
-unfolding conditionsInRange arcsInRange
-sun-of q e =
-    and-left (arcInRange (sunArc q)) _
-    (and-right (askedInRange (q .yoga) 26) _
-    (and-right (askedInRange (q .nakshatra) 26) _ (and-right (askedInRange (q .tithi) 29) _ (and-right (askedInRange (q .weekday) 6) _ e))))
-
-pub accepted-by : (q : Query) → refusalOf q ≡ 0 → Accepted q
-unfolding refusalOf
-accepted-by q e = go (leb (q .first) lastDay) (leb (q .last) lastDay) (leb (q .first) (q .last)) (conditionsInRange q) refl refl refl e
-  where
-    go :
-        (a b o g : Bool) →
-        leb (q .last) lastDay ≡ b →
-        leb (q .first) (q .last) ≡ o →
-        conditionsInRange q ≡ g →
-        _≡_ {A = ℕ} (cond (a && b) (cond o (cond g 0 6) 5) 2) 0 →
-        Accepted q
-    go true true true true h k c e = record { first = leb-true _ _ k; last = leb-true _ _ h; sun = sun-of q c; conditions = c }
-    go true true true false h k c e = absurd (omega arith)
-    go true true false g h k c e = absurd (omega arith)
-    go true false o g h k c e = absurd (omega arith)
-    go false b o g h k c e = absurd (omega arith)
-
-pub accepts : (q : Query) → q .first ≤ q .last → q .last ≤ lastDay → conditionsInRange q ≡ true → refusalOf q ≡ 0
-unfolding refusalOf
-accepts q h k c = rw (le-leb (q .first) lastDay (omega arith), le-leb _ _ k, le-leb _ _ h, c)
 
 module _ (q : Query) where
   pub measured-refused : (k : ℕ) → k ≡ refusalOf q → (k ≡ 0 → ⊥) → Measured q (record { refusal = k; length = 0; examined = 0 })

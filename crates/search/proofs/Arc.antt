@@ -11,10 +11,8 @@ use Rattle.query.specs.declared.Query.{Query}
 use Rattle.query.specs.declared.Arc.{Arc}
 use Rattle.query.specs.Conditions.{within, arcAt, arcInRange}
 use Rattle.query.specs.Query.{sunInArc, nextDay}
+use Rattle.query.proofs.Accepted.{sunArc}
 use Rattle.search.proofs.Circle.{past, past-low, ahead-past}
-
-abbrev pub sunArc : Query → Arc
-sunArc q = arcAt (q .arcs) 0
 
 -- an arc in range: its start and its width
 pub record Fair (a : Arc) : Type 0 where

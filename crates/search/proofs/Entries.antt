@@ -24,18 +24,17 @@ entries-snoc (x ∷ ds) d = ap (λ (l : List ℕ). entry x ++ l) (entries-snoc d
 
 -- the next entry, put behind those that are there
 pub entries-next :
-    (done : List ℕ) (d : ℕ) (m l : List ℕ) (i at : ℕ) →
+    (done : List ℕ) (d : ℕ) (m l : List ℕ) (i : ℕ) →
     length done ≡ i →
-    at ≡ 4 * i →
     m ≡ entries done ++ drop (4 * i) l →
-    withEntry m at d ≡ entries (done ++ (d ∷ [])) ++ drop (4 * (i + 1)) l
-entries-next done d m l i at s p e =
-    let n : length (entries done) ≡ at = omega (arith, entries-length done) in
-    let front : take at m ≡ entries done = ap (take at) e ∙ take-at (entries done) (drop (4 * i) l) at n in
+    withEntry m (4 * i) d ≡ entries (done ++ (d ∷ [])) ++ drop (4 * (i + 1)) l
+entries-next done d m l i s e =
+    let n : length (entries done) ≡ 4 * i = omega (arith, entries-length done) in
+    let front : take (4 * i) m ≡ entries done = ap (take (4 * i)) e ∙ take-at (entries done) (drop (4 * i) l) (4 * i) n in
     let four : 4 * i + 4 ≡ 4 * (i + 1) = omega arith in
-    let back : drop (at + 4) m ≡ drop (4 * (i + 1)) l =
-    sym (drop-drop 4 at m)
-    ∙ ap (λ (t : List ℕ). drop 4 t) (ap (drop at) e ∙ drop-at (entries done) (drop (4 * i) l) at n)
+    let back : drop (4 * i + 4) m ≡ drop (4 * (i + 1)) l =
+    sym (drop-drop 4 (4 * i) m)
+    ∙ ap (λ (t : List ℕ). drop 4 t) (ap (drop (4 * i)) e ∙ drop-at (entries done) (drop (4 * i) l) (4 * i) n)
     ∙ drop-drop 4 (4 * i) l
     ∙ ap (λ (k : ℕ). drop k l) four in
     ap₂ (λ (a b : List ℕ). a ++ (entry d ++ b)) front back

@@ -12,7 +12,8 @@ use Rattle.query.specs.declared.Query.{Query}
 use Rattle.query.specs.Conditions.{arcInRange}
 use Rattle.query.specs.Query.{matches, nextDay}
 use Rattle.search.specs.Days.{filtered, daysFrom, spanLength, span, matchingDays, visitedFrom, visitedDays}
-use Rattle.search.proofs.Arc.{sunArc, next-later}
+use Rattle.query.proofs.Accepted.{sunArc}
+use Rattle.search.proofs.Arc.{next-later}
 use Rattle.search.proofs.Skip.{matching-visited, visit-end, visit-more}
 
 -- each element is at least a, and below those behind it

@@ -15,7 +15,8 @@ use Rattle.query.specs.Conditions.{arcInRange}
 use Rattle.query.specs.Query.{sunInArc, nextDay}
 use Rattle.search.specs.Days.{filtered, spanLength, span, visitedFrom, visitedDays, visitLimit}
 use Rattle.search.proofs.Circle.{past, circles, past-low, past-circles}
-use Rattle.search.proofs.Arc.{sunArc, fair, out-past, past-out, next-in, next-out}
+use Rattle.query.proofs.Accepted.{sunArc}
+use Rattle.search.proofs.Arc.{fair, out-past, past-out, next-in, next-out}
 use Rattle.search.proofs.Skip.{visit-end, visit-more, filtered-visited}
 
 circles-of-sun : (s d e : ℕ) → unrolled d ≤ unrolled e → circles s d ≤ circles s e

@@ -15,10 +15,10 @@ use Rattle.query.specs.Query.{matches, nextDay, examinedOf, refusalOf}
 use Rattle.search.specs.Days.{filtered, visitedDays, matchingDays, Tallied}
 use Rattle.search.specs.declared.Tally.{Tally}
 use Rattle.search.specs.Search.{entries, withEntry, withEntries}
-use Rattle.search.proofs.Arc.{sunArc, next-later}
+use Rattle.query.proofs.Accepted.{sunArc, accepted-by}
+use Rattle.search.proofs.Arc.{next-later}
 use Rattle.search.proofs.Filter.{filtered-in, filtered-out, filtered-nil}
 use Rattle.query.proofs.Scan.{outside-unmatched, examined-at}
-use Rattle.search.proofs.Answers.{accepted-by}
 use Rattle.search.proofs.Skip.{rest, rest-end, rest-more, skipped, matching-visited}
 use Rattle.search.proofs.Entries.{entries-length, entries-next}
 
@@ -59,18 +59,17 @@ pub record Latest (q : Query) (d latest : ℕ) : Type 0 where
 latest-start : (q : Query) → q .first ≤ q .last → Latest q (q .first) (q .first)
 latest-start q h = record { from-first = omega arith; to-last = h; quiet = λ m a b. absurd (omega arith) }
 
--- the list l, now m, has the entries of the i days that matched, up to the byte `at`
-pub record Writing (q : Query) (l m : List ℕ) (d i at : ℕ) : Type 0 where
+-- the list l, now m, has the entries of the i days that matched
+pub record Writing (q : Query) (l m : List ℕ) (d i : ℕ) : Type 0 where
   pub done : List ℕ
   pub whole : done ++ ahead q d ≡ matchingDays q
   pub size : length done ≡ i
-  pub place : at ≡ 4 * i
   pub left : m ≡ entries done ++ drop (4 * i) l
 
 -- a pass that writes, and one that leaves the list as it was
-pub Progress : Bool → Query → List ℕ → List ℕ → ℕ → ℕ → ℕ → Type 0
-Progress true q l m d i at = Writing q l m d i at
-Progress false q l m d i at = m ≡ l
+pub Progress : Bool → Query → List ℕ → List ℕ → ℕ → ℕ → Type 0
+Progress true q l m d i = Writing q l m d i
+Progress false q l m d i = m ≡ l
 
 module _ (q : Query) (r : arcInRange (sunArc q) ≡ true) where
   ahead-in : (d : ℕ) → d ≤ q .last → matches q d ≡ true → ahead q d ≡ d ∷ ahead q (nextDay q d)
@@ -120,24 +119,24 @@ module _ (q : Query) (r : arcInRange (sunArc q) ≡ true) where
         none-later = λ m a b. l .quiet m a (omega arith);
       }
 
-  progress-start : (writing : Bool) (l : List ℕ) → Progress writing q l l (q .first) 0 0
+  progress-start : (writing : Bool) (l : List ℕ) → Progress writing q l l (q .first) 0
   unfolding Progress visitedDays entries
-  progress-start true l = record { done = []; whole = matching-visited q r; size = refl; place = refl; left = refl }
+  progress-start true l = record { done = []; whole = matching-visited q r; size = refl; left = refl }
   progress-start false l = refl
 
-  module _ (l m : List ℕ) (d i at : ℕ) where
-    size-up : Writing q l m d i at → i + length (ahead q d) ≡ length (matchingDays q)
+  module _ (l m : List ℕ) (d i : ℕ) where
+    size-up : Writing q l m d i → i + length (ahead q d) ≡ length (matchingDays q)
     size-up w = omega (arith, w .size, simp length-append at (ap length (w .whole)))
 
-    written-length : 4 * length (matchingDays q) ≤ length l → Writing q l m d i at → length m ≡ length l
+    written-length : 4 * length (matchingDays q) ≤ length l → Writing q l m d i → length m ≡ length l
     written-length room w = ap length (w .left) ∙ simp (length-append, length-drop) (omega (arith, entries-length (w .done), w .size, size-up w))
 
-    progress-length : (writing : Bool) → (writing ≡ true → 4 * length (matchingDays q) ≤ length l) → Progress writing q l m d i at → length m ≡ length l
+    progress-length : (writing : Bool) → (writing ≡ true → 4 * length (matchingDays q) ≤ length l) → Progress writing q l m d i → length m ≡ length l
     unfolding Progress
     progress-length true room w = written-length (room refl) w
     progress-length false room w = ap length w
 
-    progress-end : (writing : Bool) → q .last < d → Progress writing q l m d i at → m ≡ cond writing (withEntries (matchingDays q) l) l
+    progress-end : (writing : Bool) → q .last < d → Progress writing q l m d i → m ≡ cond writing (withEntries (matchingDays q) l) l
     unfolding Progress
     progress-end true h w =
         let e : w .done ≡ matchingDays q = sym (append-nil (w .done)) ∙ ap (λ (t : List ℕ). w .done ++ t) (sym (ahead-end d h)) ∙ w .whole in
@@ -145,77 +144,72 @@ module _ (q : Query) (r : arcInRange (sunArc q) ≡ true) where
     progress-end false h w = w
 
     module _ (h : d ≤ q .last) where
-      progress-room : (writing : Bool) → (writing ≡ true → 4 * length (matchingDays q) ≤ length l) → matches q d ≡ true → Progress writing q l m d i at → writing ≡ true → at + 4 ≤ length m
+      progress-room : (writing : Bool) → (writing ≡ true → 4 * length (matchingDays q) ≤ length l) → matches q d ≡ true → Progress writing q l m d i → writing ≡ true → 4 * i + 4 ≤ length m
       unfolding Progress
-      progress-room true room f w e = omega (arith, written-length (room refl) w, size-up w, ap length (ahead-in d h f), w .place, room refl)
+      progress-room true room f w e = omega (arith, written-length (room refl) w, size-up w, ap length (ahead-in d h f), room refl)
       progress-room false room f w e = absurd (false≢true e)
 
-      progress-in : (writing : Bool) (x : List ℕ) → matches q d ≡ true → x ≡ cond writing (withEntry m at d) m → Progress writing q l m d i at → Progress writing q l x (nextDay q d) (i + 1) (at + 4)
+      progress-in : (writing : Bool) (x : List ℕ) → matches q d ≡ true → x ≡ cond writing (withEntry m (4 * i) d) m → Progress writing q l m d i → Progress writing q l x (nextDay q d) (i + 1)
       unfolding Progress
       progress-in true x f e w =
           record {
             done = w .done ++ (d ∷ []);
             whole = append-assoc (w .done) (d ∷ []) (ahead q (nextDay q d)) ∙ ap (λ (t : List ℕ). w .done ++ t) (sym (ahead-in d h f)) ∙ w .whole;
             size = simp length-append (omega (arith, w .size));
-            place = omega (arith, w .place);
-            left = e ∙ entries-next (w .done) d m l i at (w .size) (w .place) (w .left);
+            left = e ∙ entries-next (w .done) d m l i (w .size) (w .left);
           }
       progress-in false x f e w = e ∙ w
 
-      progress-out : (writing : Bool) → matches q d ≡ false → Progress writing q l m d i at → Progress writing q l m (nextDay q d) i at
+      progress-out : (writing : Bool) → matches q d ≡ false → Progress writing q l m d i → Progress writing q l m (nextDay q d) i
       unfolding Progress
       progress-out true f w =
           record {
             done = w .done;
             whole = ap (λ (t : List ℕ). w .done ++ t) (sym (ahead-out d h f)) ∙ w .whole;
             size = w .size;
-            place = w .place;
             left = w .left;
           }
       progress-out false f w = w
 
 -- all that holds of a pass before the visit of day d
-pub record Scanning (q : Query) (writing : Bool) (l m : List ℕ) (d n k latest at : ℕ) : Type 0 where
+pub record Scanning (q : Query) (writing : Bool) (l m : List ℕ) (d n k latest : ℕ) : Type 0 where
   pub counting : Counting q d n k
   pub last-match : Latest q d latest
-  pub progress : Progress writing q l m d n at
-  pub place : at ≡ 4 * n
+  pub progress : Progress writing q l m d n
 
 module _ (q : Query) (writing : Bool) (l : List ℕ) (e : refusalOf q ≡ 0) (room : writing ≡ true → 4 * length (matchingDays q) ≤ length l) where
-  pub scanning-start : Scanning q writing l l (q .first) 0 0 (q .first) 0
+  pub scanning-start : Scanning q writing l l (q .first) 0 0 (q .first)
   scanning-start =
       let a = accepted-by q e in
-      record { counting = counting-start q; last-match = latest-start q (a .first); progress = progress-start q (a .sun) writing l; place = refl }
+      record { counting = counting-start q; last-match = latest-start q (a .first); progress = progress-start q (a .sun) writing l }
 
-  module _ (m : List ℕ) (d n k latest at : ℕ) (s : Scanning q writing l m d n k latest at) where
+  module _ (m : List ℕ) (d n k latest : ℕ) (s : Scanning q writing l m d n k latest) where
     pub scanning-length : length m ≡ length l
-    scanning-length = progress-length q (accepted-by q e .sun) l m d n at writing room (s .progress)
+    scanning-length = progress-length q (accepted-by q e .sun) l m d n writing room (s .progress)
 
     pub scanning-end : (tally : Tally) → q .last < d → tally ≡ record { length = n; examined = k; latest = latest } → Tallied q tally × (m ≡ cond writing (withEntries (matchingDays q) l) l)
     scanning-end tally h t =
         let r = accepted-by q e .sun in
-        (rw t (tallied q r d (record { length = n; examined = k; latest = latest }) h (s .counting) (s .last-match)), progress-end q r l m d n at writing h (s .progress))
+        (rw t (tallied q r d (record { length = n; examined = k; latest = latest }) h (s .counting) (s .last-match)), progress-end q r l m d n writing h (s .progress))
 
     module _ (h : d ≤ q .last) where
-      pub scanning-room : matches q d ≡ true → writing ≡ true → at + 4 ≤ length m
-      scanning-room f w = progress-room q (accepted-by q e .sun) l m d n at h writing room f (s .progress) w
+      pub scanning-room : matches q d ≡ true → writing ≡ true → 4 * n + 4 ≤ length m
+      scanning-room f w = progress-room q (accepted-by q e .sun) l m d n h writing room f (s .progress) w
 
-      pub scanning-in : (x : List ℕ) → matches q d ≡ true → x ≡ cond writing (withEntry m at d) m → Scanning q writing l x (nextDay q d) (n + 1) (k + 1) d (at + 4)
+      pub scanning-in : (x : List ℕ) → matches q d ≡ true → x ≡ cond writing (withEntry m (4 * n) d) m → Scanning q writing l x (nextDay q d) (n + 1) (k + 1) d
       scanning-in x f w =
           let r = accepted-by q e .sun in
           record {
             counting = counting-in q r d n k h (s .counting) f;
             last-match = latest-in q r d latest h (omega (arith, s .counting .gone));
-            progress = progress-in q r l m d n at h writing x f w (s .progress);
-            place = omega (arith, s .place);
+            progress = progress-in q r l m d n h writing x f w (s .progress);
           }
 
-      pub scanning-out : matches q d ≡ false → Scanning q writing l m (nextDay q d) n (k + 1) latest at
+      pub scanning-out : matches q d ≡ false → Scanning q writing l m (nextDay q d) n (k + 1) latest
       scanning-out f =
           let r = accepted-by q e .sun in
           record {
             counting = counting-out q r d n k h (s .counting) f;
             last-match = latest-out q r d latest f (s .last-match);
-            progress = progress-out q r l m d n at h writing f (s .progress);
-            place = s .place;
+            progress = progress-out q r l m d n h writing f (s .progress);
           }

@@ -14,7 +14,8 @@ use Rattle.query.proofs.Scan.{outside-unmatched}
 use Rattle.query.specs.Query.{sunInArc, matches, nextDay}
 use Rattle.search.specs.Days.{filtered, daysFrom, spanLength, span, matchingDays, visitedFrom, visitedDays}
 use Rattle.search.proofs.Circle.{past, past-grows}
-use Rattle.search.proofs.Arc.{sunArc, fair, out-past, past-out, next-in, next-out, next-later}
+use Rattle.query.proofs.Accepted.{sunArc}
+use Rattle.search.proofs.Arc.{fair, out-past, past-out, next-in, next-out, next-later}
 use Rattle.search.proofs.Filter.{filtered-at, filtered-cons, filtered-front}
 
 -- the visits from day d on

@@ -1,11 +1,11 @@
 -- The numbers found for a day's pair are its columns: the pair is in range, so that nothing is refused. Assumes nothing.
-use mathlib.Core.Path.{_≡_, ap}
+use mathlib.Core.Path.{_≡_, ap, _∙_}
 use mathlib.Core.List.{List, [], _∷_}
 use Prim.Native.Nat.{ℕ, _≤_}
 use Rattle.days.specs.declared.Day.{Day}
 use Rattle.days.specs.declared.NumberAnswer.{NumberAnswer}
-use Rattle.days.specs.Days.{lastDay, pairAt, weekdayOn, weekdayOf, theNumber}
-use Rattle.days.proofs.Laws.{pair-in-range, count-pair}
+use Rattle.days.specs.Days.{lastDay, pairAt, weekdayOn, weekdayAt, weekdayOf, theNumber}
+use Rattle.days.proofs.Laws.{pair-in-range, count-pair, given}
 use Rattle.panchanga.specs.declared.Panchanga.{Panchanga}
 use Rattle.panchanga.specs.OnDays.{panchangaOf}
 use Rattle.sheet.specs.Sheets.{columns}
@@ -25,8 +25,7 @@ found d w p =
     ∷ []
 
 weekday-on : (n : ℕ) → n ≤ lastDay → weekdayOf (pairAt n) ≡ theNumber (weekdayOn n)
-unfolding weekdayOf
-weekday-on n h = rw (pair-in-range n h) (ap (λ k. theNumber (weekdayOn k)) (count-pair n))
+weekday-on n h = given weekdayAt (pairAt n) (pair-in-range n h) ∙ ap (λ k. theNumber (weekdayOn k)) (count-pair n)
 
 of-pair : (n : ℕ) → n ≤ lastDay → found (pairAt n) (weekdayOf (pairAt n)) (panchangaOf (pairAt n)) ≡ columns n
 unfolding panchangaOf columns

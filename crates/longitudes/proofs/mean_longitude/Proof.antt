@@ -5,7 +5,7 @@ use mathlib.Core.Path.{_≡_, sym, ap, _∙_}
 use Prim.Native.Nat.{ℕ}
 use Rattle.days.specs.Days.{inRange, theNumber}
 use Rattle.longitudes.specs.Longitudes.{longitudeAt}
-use Rattle.longitudes.proofs.Answers.{given, refused}
+use Rattle.days.proofs.Laws.{given, refused}
 use Rattle.longitudes.proofs.mean_longitude.Statement.{statement}
 use Rattle.longitudes.proofs.mean_longitude.Tie as tie
 

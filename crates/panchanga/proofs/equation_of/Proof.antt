@@ -1,4 +1,4 @@
--- `equation_of` meets its contract: with s in the first quarter, Q and its products fit.
+-- `equation_of` meets its contract: Q is that of the anomaly reduced to the first quarter, and it and its products fit.
 use borrow.Author.Needs.{needs}
 use mathlib.Core.Path.{ap}
 use Prim.Native.Nat.{ℕ, _*_, _-_, _/_}
@@ -8,11 +8,11 @@ use Rattle.panchanga.proofs.Naturals.{Sized, sized}
 use Rattle.panchanga.proofs.equation_of.Statement.{statement}
 use Rattle.panchanga.proofs.equation_of.Tie as tie
 
-known : (c : tie.After-first-quarter) → Sized (c .before .args .scale) (c .before .args .divisor) (bhujaProduct (c .first-quarter .result))
-known c = sized (c .before .args .scale) (c .before .args .divisor) (c .first-quarter .result) (omega arith) (omega arith) (omega arith)
+known : (c : tie.After-in-half) → Sized (c .before .args .scale) (c .before .args .divisor) (bhujaProduct (c .in-half .result))
+known c = sized (c .before .args .scale) (c .before .args .divisor) (c .in-half .result) (omega arith) (omega arith) (omega arith)
 
-first-quarter-requires : tie.Need-first-quarter-requires
-first-quarter-requires c κs = search needs
+in-half-requires : tie.Need-in-half-requires
+in-half-requires c κs = search needs
 
 cast-s : tie.Need-cast-s
 cast-s c = search needs
@@ -41,13 +41,13 @@ cast-result c = omega (arith, known c)
 returns : tie.Need-returns
 unfolding equation
 returns c =
-    (ap (λ (s : ℕ). c .before .args .scale * bhujaProduct s / (c .before .args .divisor - bhujaProduct s)) (c .first-quarter .ensures .0), omega (arith, known c))
+    (ap (λ (Q : ℕ). c .before .args .scale * Q / (c .before .args .divisor - Q)) (c .in-half .ensures .0), omega (arith, known c))
 
 pub equation-of-spec : {M : Type 1} → statement M
 equation-of-spec =
     tie.close
     (tie.spec
-    first-quarter-requires
+    in-half-requires
     cast-s
     cast-q
     sub-q

@@ -4,7 +4,7 @@ use mathlib.Core.Path.{_≡_, ap, _∙_}
 use Rattle.days.specs.declared.NumberAnswer.{NumberAnswer}
 use Rattle.longitudes.specs.Longitudes.{longitudeAt}
 use Rattle.longitudes.specs.Answers.{bodyNumber}
-use Rattle.longitudes.proofs.Answers.{given}
+use Rattle.days.proofs.Laws.{given}
 use Rattle.longitudes.proofs.Table.{longitude-small}
 use Rattle.panchanga.proofs.mean_on.Statement.{statement}
 use Rattle.panchanga.proofs.mean_on.Tie as tie

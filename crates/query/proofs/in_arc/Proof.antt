@@ -3,7 +3,7 @@ use borrow.Author.Needs.{needs}
 use mathlib.Core.Path.{ap, _∙_}
 use Prim.Native.Nat.{ℕ}
 use Rattle.days.specs.declared.NumberAnswer.{NumberAnswer}
-use Rattle.longitudes.proofs.Answers.{given}
+use Rattle.days.proofs.Laws.{given}
 use Rattle.longitudes.specs.Longitudes.{difference, longitudeAt}
 use Rattle.longitudes.specs.Answers.{bodyNumber}
 use Rattle.query.specs.Conditions.{within}

@@ -2,7 +2,7 @@
 use borrow.Author.Needs.{needs}
 use mathlib.Core.Path.{ap, _∙_}
 use Rattle.days.specs.declared.NumberAnswer.{NumberAnswer}
-use Rattle.longitudes.proofs.Answers.{given}
+use Rattle.days.proofs.Laws.{given}
 use Rattle.panchanga.specs.OnDays.{nakshatraAt}
 use Rattle.query.specs.Conditions.{meets}
 use Rattle.query.proofs.nakshatra_met.Statement.{statement}

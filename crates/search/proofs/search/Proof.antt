@@ -5,7 +5,8 @@ use native.Mathlib.Omega.{arith}
 use denote.Ref.{now}
 use lib.ListN.{length}
 use Rattle.search.specs.Search.{capacity}
-use Rattle.search.proofs.Answers.{accepted-by, refused, too-many, all-written, until-accepted, until-matching, roomy-fits}
+use Rattle.query.proofs.Accepted.{accepted-by}
+use Rattle.search.proofs.Answers.{refused, too-many, all-written, until-accepted, until-matching, roomy-fits}
 use Rattle.search.proofs.Entries.{no-entries}
 use Rattle.search.proofs.search.Statement.{statement}
 use Rattle.search.proofs.search.Tie as tie

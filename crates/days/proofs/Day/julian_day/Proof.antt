@@ -3,8 +3,8 @@ use borrow.Author.Needs.{needs}
 use mathlib.Core.Bool.{true}
 use mathlib.Core.Path.{_≡_, sym, ap, _∙_}
 use native.Mathlib.Omega.{arith}
-use Rattle.days.specs.Days.{inRange, theNumber, julianDayOf}
-use Rattle.days.proofs.Laws.{in-range}
+use Rattle.days.specs.Days.{inRange, theNumber}
+use Rattle.days.proofs.Laws.{in-range, given, refused}
 use Rattle.days.proofs.Day.julian_day.Statement.{statement}
 use Rattle.days.proofs.Day.julian_day.Tie as tie
 
@@ -24,12 +24,10 @@ add-number-2 : tie.Need-add-number-2
 add-number-2 c = omega (arith, in-range (c .before .before .before .before .args .self) (ok (c .before .before)))
 
 returns : tie.Need-returns
-unfolding julianDayOf
-returns c = rw (ok (c .before .before)) (ap theNumber (omega arith))
+returns c = ap theNumber (omega arith) ∙ sym (given _ _ (ok (c .before .before)))
 
 returns-2 : tie.Need-returns-2
-unfolding julianDayOf
-returns-2 c = rw (sym (c .before .in-range .ensures) ∙ c .if1 .left)
+returns-2 c = sym (refused _ _ (sym (c .before .in-range .ensures) ∙ c .if1 .left))
 
 pub julian-day-spec : {M : Type 1} → statement M
 julian-day-spec = tie.close (tie.spec in-range-requires mul-number add-number add-number-2 returns returns-2)

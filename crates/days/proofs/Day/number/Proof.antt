@@ -3,8 +3,8 @@ use borrow.Author.Needs.{needs}
 use mathlib.Core.Bool.{true}
 use mathlib.Core.Path.{_≡_, sym, _∙_}
 use native.Mathlib.Omega.{arith}
-use Rattle.days.specs.Days.{inRange, numberOf}
-use Rattle.days.proofs.Laws.{in-range}
+use Rattle.days.specs.Days.{inRange}
+use Rattle.days.proofs.Laws.{in-range, given, refused}
 use Rattle.days.proofs.Day.number.Statement.{statement}
 use Rattle.days.proofs.Day.number.Tie as tie
 
@@ -21,12 +21,10 @@ add-number : tie.Need-add-number
 add-number c = omega (arith, in-range (c .before .before .before .before .args .self) (ok (c .before .before)))
 
 returns : tie.Need-returns
-unfolding numberOf
-returns c = rw (ok (c .before .before))
+returns c = sym (given _ _ (ok (c .before .before)))
 
 returns-2 : tie.Need-returns-2
-unfolding numberOf
-returns-2 c = rw (sym (c .before .in-range .ensures) ∙ c .if1 .left)
+returns-2 c = sym (refused _ _ (sym (c .before .in-range .ensures) ∙ c .if1 .left))
 
 pub number-spec : {M : Type 1} → statement M
 number-spec = tie.close (tie.spec in-range-requires mul-number add-number returns returns-2)

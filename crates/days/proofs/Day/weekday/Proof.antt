@@ -1,10 +1,10 @@
--- `Day::weekday` meets its contract: (5 C + A) mod 7 is the number mod 7.
+-- `Day::weekday` meets its contract: a pair in range keeps the sum small.
 use borrow.Author.Needs.{needs}
 use mathlib.Core.Bool.{true}
-use mathlib.Core.Path.{_≡_, sym, ap, _∙_}
+use mathlib.Core.Path.{_≡_, sym, _∙_}
 use native.Mathlib.Omega.{arith}
-use Rattle.days.specs.Days.{inRange, theNumber, weekdayOf}
-use Rattle.days.proofs.Laws.{in-range, weekday-by-pair}
+use Rattle.days.specs.Days.{inRange}
+use Rattle.days.proofs.Laws.{in-range, given, refused}
 use Rattle.days.proofs.Day.weekday.Statement.{statement}
 use Rattle.days.proofs.Day.weekday.Tie as tie
 
@@ -21,12 +21,10 @@ add-number : tie.Need-add-number
 add-number c = omega (arith, in-range (c .before .before .before .before .args .self) (ok (c .before .before)))
 
 returns : tie.Need-returns
-unfolding weekdayOf
-returns c = rw (ok (c .before .before)) (ap theNumber (weekday-by-pair (c .before .before .before .before .args .self)))
+returns c = sym (given _ _ (ok (c .before .before)))
 
 returns-2 : tie.Need-returns-2
-unfolding weekdayOf
-returns-2 c = rw (sym (c .before .in-range .ensures) ∙ c .if1 .left)
+returns-2 c = sym (refused _ _ (sym (c .before .in-range .ensures) ∙ c .if1 .left))
 
 pub weekday-spec : {M : Type 1} → statement M
 weekday-spec = tie.close (tie.spec in-range-requires mul-number add-number returns returns-2)

@@ -1,8 +1,7 @@
 -- `graha_day_weekday` meets its contract: a number of the pair is the number of the day.
 use borrow.Author.Needs.{needs}
-use mathlib.Core.Path.{_∙_}
-use Rattle.host.specs.Calls.{weekdayAt}
-use Rattle.host.proofs.OnNumbers.{on-number, weekday-on}
+use Rattle.days.specs.Days.{weekdayAt}
+use Rattle.host.proofs.OnNumbers.{on-number}
 use Rattle.host.proofs.positions.graha_day_weekday.Statement.{statement}
 use Rattle.host.proofs.positions.graha_day_weekday.Tie as tie
 
@@ -13,7 +12,7 @@ weekday-requires : tie.Need-weekday-requires
 weekday-requires c κs = search needs
 
 returns : tie.Need-returns
-returns c = on-number weekdayAt _ (c .before .pair .ensures) (c .weekday .ensures ∙ weekday-on _)
+returns c = on-number weekdayAt _ (c .before .pair .ensures) (c .weekday .ensures)
 
 pub graha-day-weekday-spec : {M : Type 1} → statement M
 graha-day-weekday-spec = tie.close (tie.spec pair-requires weekday-requires returns)

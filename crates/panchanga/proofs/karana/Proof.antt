@@ -1,0 +1,37 @@
+-- `karana` meets its contract: `in_range` tells which answer it is.
+use borrow.Author.Needs.{needs}
+use mathlib.Core.Bool.{true}
+use mathlib.Core.Path.{_≡_, sym, ap, _∙_}
+use Rattle.days.specs.Days.{inRange, theNumber}
+use Rattle.days.proofs.Laws.{given, refused}
+use Rattle.panchanga.specs.OnDays.{karanaAt}
+use Rattle.panchanga.proofs.karana.Statement.{statement}
+use Rattle.panchanga.proofs.karana.Tie as tie
+
+ok : (c : tie.Then1) → inRange (c .before .before .args .day) ≡ true
+ok c = sym (c .before .in-range .ensures) ∙ c .if1 .taken
+
+in-range-requires : tie.Need-in-range-requires
+in-range-requires c κs = search needs
+
+sun-on-requires : tie.Need-sun-on-requires
+sun-on-requires c κs = ok c
+
+moon-on-requires : tie.Need-moon-on-requires
+moon-on-requires c κs = ok (c .before)
+
+karana-of-requires : tie.Need-karana-of-requires
+karana-of-requires c κs = search needs
+
+told-requires : tie.Need-told-requires
+told-requires c κs = search needs
+
+returns : tie.Need-returns
+unfolding karanaAt
+returns c = c .told .ensures ∙ ap theNumber (cc (c .before .karana-of .ensures)) ∙ sym (given _ _ (ok (c .before .before .before .before)))
+
+returns-2 : tie.Need-returns-2
+returns-2 c = sym (refused _ _ (sym (c .before .in-range .ensures) ∙ c .if1 .left))
+
+pub karana-spec : {M : Type 1} → statement M
+karana-spec = tie.close (tie.spec in-range-requires sun-on-requires moon-on-requires karana-of-requires told-requires returns returns-2)

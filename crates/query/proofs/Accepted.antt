@@ -1,0 +1,59 @@
+-- A query that is not refused: what is then in range, by the tests in their order; and back.
+-- Assumes nothing.
+use Prim.Native.Nat.{ℕ, _≤_}
+use mathlib.Core.Path.{_≡_, refl}
+use mathlib.Core.Bool.{Bool, true, false, cond, _&&_, false≢true}
+use native.Mathlib.Omega.{arith}
+use lib.Dec.{leb}
+use borrow.Author.Tests.{leb-true, le-leb}
+use Rattle.days.specs.Days.{lastDay}
+use Rattle.query.specs.declared.Arc.{Arc}
+use Rattle.query.specs.declared.Query.{Query}
+use Rattle.query.specs.Conditions.{arcAt, askedInRange, arcInRange, arcsInRange, conditionsInRange}
+use Rattle.query.specs.Query.{refusalOf}
+
+abbrev pub sunArc : Query → Arc
+sunArc q = arcAt (q .arcs) 0
+
+and-right : (a b : Bool) → (a && b) ≡ true → b ≡ true
+and-right true b e = e
+and-right false b e = absurd (false≢true e)
+
+and-left : (a b : Bool) → (a && b) ≡ true → a ≡ true
+and-left true b e = refl
+and-left false b e = e
+
+-- a query that is not refused: its days and the Sun's arc are in range
+pub record Accepted (q : Query) : Type 0 where
+  pub first : q .first ≤ q .last
+  pub last : q .last ≤ lastDay
+  pub sun : arcInRange (sunArc q) ≡ true
+  pub conditions : conditionsInRange q ≡ true
+
+sun-of : (q : Query) → conditionsInRange q ≡ true → arcInRange (sunArc q) ≡ true
+unfolding conditionsInRange arcsInRange
+sun-of q e =
+    and-left (arcInRange (sunArc q)) _
+    (and-right (askedInRange (q .yoga) 26) _
+    (and-right (askedInRange (q .nakshatra) 26) _ (and-right (askedInRange (q .tithi) 29) _ (and-right (askedInRange (q .weekday) 6) _ e))))
+
+pub accepted-by : (q : Query) → refusalOf q ≡ 0 → Accepted q
+unfolding refusalOf
+accepted-by q e = go (leb (q .first) lastDay) (leb (q .last) lastDay) (leb (q .first) (q .last)) (conditionsInRange q) refl refl refl e
+  where
+    go :
+        (a b o g : Bool) →
+        leb (q .last) lastDay ≡ b →
+        leb (q .first) (q .last) ≡ o →
+        conditionsInRange q ≡ g →
+        _≡_ {A = ℕ} (cond (a && b) (cond o (cond g 0 6) 5) 2) 0 →
+        Accepted q
+    go true true true true h k c e = record { first = leb-true _ _ k; last = leb-true _ _ h; sun = sun-of q c; conditions = c }
+    go true true true false h k c e = absurd (omega arith)
+    go true true false g h k c e = absurd (omega arith)
+    go true false o g h k c e = absurd (omega arith)
+    go false b o g h k c e = absurd (omega arith)
+
+pub accepts : (q : Query) → q .first ≤ q .last → q .last ≤ lastDay → conditionsInRange q ≡ true → refusalOf q ≡ 0
+unfolding refusalOf
+accepts q h k c = rw (le-leb (q .first) lastDay (omega arith), le-leb _ _ k, le-leb _ _ h, c)
