@@ -11,8 +11,8 @@ slice-aggregate-read-input c = search needs
 read-input-requires : tie.Need-read-input-requires
 read-input-requires c κs = search needs
 
-array-share-prefix-input : tie.Need-array-share-prefix-input
-array-share-prefix-input c = search needs
+array-share-prefix-buffer : tie.Need-array-share-prefix-buffer
+array-share-prefix-buffer c = search needs
 
 slice-aggregate-sheet : tie.Need-slice-aggregate-sheet
 slice-aggregate-sheet c = search needs
@@ -38,7 +38,7 @@ main-spec =
     (tie.spec
     slice-aggregate-read-input
     read-input-requires
-    array-share-prefix-input
+    array-share-prefix-buffer
     slice-aggregate-sheet
     sheet-requires
     array-share-prefix-bytes
