@@ -1,22 +1,15 @@
 -- The host's query: a Sun arc and a weekday, both always, and no other condition.
 -- Assumes nothing.
-use mathlib.Core.Bool.{true, false}
+use mathlib.Core.Bool.{true}
 use mathlib.Core.List.{_∷_}
 use mathlib.Core.Path.{_≡_}
 use Prim.Native.Nat.{ℕ, _≤_}
 use lib.ListN.{length, replicate}
-use Rattle.query.specs.declared.Asked.{Asked}
-use Rattle.query.specs.declared.Arc.{Arc}
 use Rattle.query.specs.declared.Query.{Query}
+use Rattle.query.specs.Conditions.{notAsked, noArc}
 use Rattle.search.specs.declared.Found.{Found}
 use Rattle.search.specs.Days.{matchingDays, visitedDays, visitLimit}
 use Rattle.search.specs.Search.{told}
-
-abbrev pub notAsked : Asked
-notAsked = record { given = false; value = 0 }
-
-abbrev pub noArc : Arc
-noArc = record { given = false; start = 0; width = 0 }
 
 unfoldable pub hostQuery : ℕ → ℕ → ℕ → ℕ → ℕ → Query
 hostQuery first last start width weekday =

@@ -10,17 +10,6 @@ ghost use Rattle.search.specs.Days.{matchingDays, visitedDays, visitLimit};
 ghost use Rattle.search.specs.Search.{capacity, resultOf, told, listAfter};
 ghost use Rattle.host.specs.HostQuery.{hostQuery, HostMeasured};
 
-const NOT_ASKED: Asked = Asked {
-    given: false,
-    value: 0,
-};
-
-const NO_ARC: Arc = Arc {
-    given: false,
-    start: 0,
-    width: 0,
-};
-
 fn query_of(first: u32, last: u32, start: u32, width: u32, weekday: u32) -> Query
     ensures { λ r. ⌜ r ≡ hostQuery first last start width weekday ⌝ }
 {
@@ -35,22 +24,22 @@ fn query_of(first: u32, last: u32, start: u32, width: u32, weekday: u32) -> Quer
     };
     let arcs = [
         sun,
-        NO_ARC,
-        NO_ARC,
-        NO_ARC,
-        NO_ARC,
-        NO_ARC,
-        NO_ARC,
-        NO_ARC,
-        NO_ARC,
+        Arc::NONE,
+        Arc::NONE,
+        Arc::NONE,
+        Arc::NONE,
+        Arc::NONE,
+        Arc::NONE,
+        Arc::NONE,
+        Arc::NONE,
     ];
     Query {
         first,
         last,
         weekday,
-        tithi: NOT_ASKED,
-        nakshatra: NOT_ASKED,
-        yoga: NOT_ASKED,
+        tithi: Asked::NONE,
+        nakshatra: Asked::NONE,
+        yoga: Asked::NONE,
         arcs,
     }
 }

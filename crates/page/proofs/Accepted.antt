@@ -16,7 +16,7 @@ use Rattle.days.specs.Days.{lastDay}
 use Rattle.query.specs.declared.Asked.{Asked}
 use Rattle.query.specs.declared.Arc.{Arc}
 use Rattle.query.specs.declared.Query.{Query}
-use Rattle.query.specs.Conditions.{askedInRange, arcAt, arcInRange, arcsInRange, conditionsInRange}
+use Rattle.query.specs.Conditions.{askedInRange, arcAt, arcInRange, arcsInRange, conditionsInRange, notAsked, noArc}
 use Rattle.query.specs.Query.{refusalOf}
 use Rattle.query.proofs.Conditions.{arcs-true, arcs-false}
 use Rattle.query.proofs.Accepted.{accepted-by}
@@ -30,7 +30,7 @@ use Rattle.page.specs.Names.{keywords}
 use Rattle.page.specs.declared.LineRead.{LineRead}
 use Rattle.page.specs.declared.Fault.{Fault}
 use Rattle.page.specs.declared.Page.{Page}
-use Rattle.page.specs.Page.{spanAt, weekdayAt, tithiAt, nakshatraAt, yogaAt, arcsAt, conditions, notAsked, noArc, everyDay, placed, rank, graver, firstValue, secondValue, unknownWord, manyValues, otherForm, blankLine, conditionRead, wordsRead, lineRead, graverFault, faulted, withLine, withLines, emptyPage, pageGives, pageRead}
+use Rattle.page.specs.Page.{spanAt, weekdayAt, tithiAt, nakshatraAt, yogaAt, arcsAt, conditions, everyDay, placed, rank, graver, firstValue, secondValue, unknownWord, manyValues, otherForm, blankLine, conditionRead, wordsRead, lineRead, graverFault, faulted, withLine, withLines, emptyPage, pageGives, pageRead}
 
 -- what holds of both cases holds of the one picked
 either : {A : Type 0} (P : A → Type 0) (t : Bool) {x y : A} → P x → P y → P (cond t x y)

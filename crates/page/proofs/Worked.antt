@@ -6,13 +6,13 @@ use mathlib.Core.List.{[], _∷_}
 use Prim.Native.Nat.{ℕ}
 use lib.ListN.{replicate}
 use Rattle.query.specs.declared.Query.{Query}
-use Rattle.query.specs.Conditions.{askedInRange, arcInRange, arcsInRange, conditionsInRange}
+use Rattle.query.specs.Conditions.{askedInRange, arcInRange, arcsInRange, conditionsInRange, notAsked, noArc}
 use Rattle.query.specs.Query.{refusalOf}
 use Rattle.text.specs.Decimal.{isDigit, allDigits, withDigit, valueOf, isNumber, numberRead}
 use Rattle.values.specs.Values.{threeRead, sexagesimal, numberOr, angleRead, dayRead, weekdayRead, noneRead}
 use Rattle.words.specs.Words.{separates, run, upTo, behind, trimmed, inFront, pieces, same, placeIn}
 use Rattle.page.specs.declared.PageRead.{PageRead}
-use Rattle.page.specs.Page.{notAsked, noArc, onlySpan, everyDay, placed, rank, graver, firstValue, secondValue, unknownWord, standsTwice, notEnded, conditionRead, wordsRead, lineRead, graverFault, withLine, withLines, pageGives, pageRead}
+use Rattle.page.specs.Page.{onlySpan, everyDay, placed, rank, graver, firstValue, secondValue, unknownWord, standsTwice, notEnded, conditionRead, wordsRead, lineRead, graverFault, withLine, withLines, pageGives, pageRead}
 
 abbrev accepts : Query → PageRead
 accepts q = record { refusal = 0; reason = 0; line = 0; query = q }

@@ -10,6 +10,7 @@ use Rattle.days.specs.Refusals.{accepted, noSuchDate, outOfRange, badInput, las
 use Rattle.query.specs.declared.Asked.{Asked}
 use Rattle.query.specs.declared.Arc.{Arc}
 use Rattle.query.specs.declared.Query.{Query}
+use Rattle.query.specs.Conditions.{notAsked, noArc}
 use Rattle.query.specs.Query.{refusalOf}
 use Rattle.text.specs.declared.NumberRead.{NumberRead}
 use Rattle.text.specs.Decimal.{numberRead}
@@ -43,12 +44,6 @@ arcsAt = 5
 -- how many there are: the place of any other word
 abbrev pub conditions : ℕ
 conditions = 14
-
-abbrev pub notAsked : Asked
-notAsked = record { given = false; value = 0 }
-
-abbrev pub noArc : Arc
-noArc = record { given = false; start = 0; width = 0 }
 
 -- a span without conditions
 abbrev pub onlySpan : ℕ → ℕ → Query

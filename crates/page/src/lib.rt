@@ -85,23 +85,14 @@ struct Page {
 fn only_span(first: u32, last: u32) -> Query
     ensures { λ r. ⌜ r ≡ onlySpan first last ⌝ }
 {
-    let any = Asked {
-        given: false,
-        value: 0,
-    };
-    let anywhere = Arc {
-        given: false,
-        start: 0,
-        width: 0,
-    };
     Query {
         first,
         last,
-        weekday: any,
-        tithi: any,
-        nakshatra: any,
-        yoga: any,
-        arcs: [anywhere; 9],
+        weekday: Asked::NONE,
+        tithi: Asked::NONE,
+        nakshatra: Asked::NONE,
+        yoga: Asked::NONE,
+        arcs: [Arc::NONE; 9],
     }
 }
 

@@ -13,6 +13,13 @@ use Rattle.query.specs.declared.Asked.{Asked}
 use Rattle.query.specs.declared.Arc.{Arc}
 use Rattle.query.specs.declared.Query.{Query}
 
+-- no number asked for, and no arc
+abbrev pub notAsked : Asked
+notAsked = record { given = false; value = 0 }
+
+abbrev pub noArc : Arc
+noArc = record { given = false; start = 0; width = 0 }
+
 -- a number is the one asked for, where one is given
 unfoldable pub meets : Asked → ℕ → Bool
 meets a n = cond (a .given) (eqb n (a .value)) true
@@ -27,7 +34,7 @@ eachBody p = p 0 && (p 1 && (p 2 && (p 3 && (p 4 && (p 5 && (p 6 && (p 7 && p 8)
 
 -- the arc of a body
 abbrev pub arcAt : List Arc → ℕ → Arc
-arcAt arcs body = getD arcs body (record { given = false; start = 0; width = 0 })
+arcAt arcs body = getD arcs body noArc
 
 -- each body's mean longitude is in its arc
 unfoldable pub arcsMet : List Arc → Day → Bool

@@ -48,6 +48,11 @@ pub struct Examined {
 }
 
 impl Asked {
+    pub const NONE: Asked = Asked {
+        given: false,
+        value: 0,
+    };
+
     fn in_range(self, largest: u32) -> bool
         ensures { λ r. ⌜ r ≡ askedInRange self largest ⌝ }
     {
@@ -70,6 +75,12 @@ impl Asked {
 }
 
 impl Arc {
+    pub const NONE: Arc = Arc {
+        given: false,
+        start: 0,
+        width: 0,
+    };
+
     fn in_range(self) -> bool
         ensures { λ r. ⌜ r ≡ arcInRange self ⌝ }
     {

@@ -10,22 +10,11 @@ use query::Query;
 ghost use mathlib.Core.Path.{_≡_};
 ghost use Rattle.query.specs.Query.{refusalOf};
 
-const NOT_ASKED: Asked = Asked {
-    given: false,
-    value: 0,
-};
-
-const NO_ARC: Arc = Arc {
-    given: false,
-    start: 0,
-    width: 0,
-};
-
 // Days 0 to 729, the Sun's arc from 0, width 3600.
 fn worked() -> Query
     ensures { λ query. ⌜ refusalOf query ≡ 0 ⌝ }
 {
-    let mut arcs = [NO_ARC; 9];
+    let mut arcs = [Arc::NONE; 9];
     arcs[0] = Arc {
         given: true,
         start: 0,
@@ -34,10 +23,10 @@ fn worked() -> Query
     Query {
         first: 0,
         last: 729,
-        weekday: NOT_ASKED,
-        tithi: NOT_ASKED,
-        nakshatra: NOT_ASKED,
-        yoga: NOT_ASKED,
+        weekday: Asked::NONE,
+        tithi: Asked::NONE,
+        nakshatra: Asked::NONE,
+        yoga: Asked::NONE,
         arcs,
     }
 }

@@ -1,6 +1,6 @@
 -- The cases that paper 01 marks with a star ("Days on both sides"), in its order. Each has what the meanings give and, in the same order, what the paper says.
 -- Assumes nothing.
-use mathlib.Core.Bool.{true, false}
+use mathlib.Core.Bool.{true}
 use mathlib.Core.List.{List, [], _∷_, _++_}
 use Prim.Native.Nat.{ℕ, _-_}
 use lib.ListN.{length, replicate}
@@ -12,9 +12,8 @@ use Rattle.longitudes.specs.Longitudes.{longitudeAt}
 use Rattle.longitudes.specs.Answers.{longitudesOf}
 use Rattle.panchanga.specs.declared.Panchanga.{Panchanga}
 use Rattle.panchanga.specs.OnDays.{panchangaOf}
-use Rattle.query.specs.declared.Asked.{Asked}
-use Rattle.query.specs.declared.Arc.{Arc}
 use Rattle.query.specs.declared.Query.{Query}
+use Rattle.query.specs.Conditions.{notAsked, noArc}
 use Rattle.query.specs.Query.{sunOn}
 use Rattle.search.specs.Days.{matchingDays, visitedDays}
 use Rattle.search.specs.Search.{resultOf, told}
@@ -47,12 +46,6 @@ saka year months tithis w = answer (lunarDay (record { year = year; months = mon
 -- true Sun, true Moon, tithi, nakshatra, yoga, karana
 abbrev pub elements : Panchanga → List ℕ
 elements p = p .sun ∷ p .moon ∷ p .tithi ∷ p .nakshatra ∷ p .yoga ∷ p .karana ∷ []
-
-abbrev notAsked : Asked
-notAsked = record { given = false; value = 0 }
-
-abbrev noArc : Arc
-noArc = record { given = false; start = 0; width = 0 }
 
 -- days 0 to 729, Sun's arc from 0, width 3600
 abbrev pub twoYears : Query
