@@ -109,7 +109,8 @@ impl Day {
         ensures { λ r. ⌜ r ≡ julianDayOf self ⌝ }
     {
         if self.in_range() {
-            let number = Day::EPOCH_JULIAN_DAY + Day::CYCLE_DAYS * self.cycle + self.within;
+            let day = self.number();
+            let number = Day::EPOCH_JULIAN_DAY + day.number;
             NumberAnswer {
                 refusal: refusal::NONE,
                 number,
@@ -124,7 +125,8 @@ impl Day {
         ensures { λ r. ⌜ r ≡ weekdayOf self ⌝ }
     {
         if self.in_range() {
-            let number = (Day::CYCLE_DAYS * self.cycle + self.within) % 7;
+            let day = self.number();
+            let number = day.number % 7;
             NumberAnswer {
                 refusal: refusal::NONE,
                 number,

@@ -2,15 +2,14 @@
 -- Assumes nothing.
 use Prim.Native.Nat.{ℕ, _+_, _-_, _≤_, _<_}
 use mathlib.Core.Path.{_≡_, refl, ap, sym, _∙_}
-use mathlib.Core.Bool.{Bool, true, false, cond, _&&_, false≢true}
+use mathlib.Core.Bool.{true, cond}
 use mathlib.Core.List.{List}
 use native.Mathlib.Omega.{arith}
 use lib.Dec.{leb, ltb}
 use lib.ListN.{length}
-use borrow.Author.Tests.{leb-true, ltb-true, le-leb, lt-leb, eq-eqb, ne-eqb}
-use Rattle.days.specs.Days.{lastDay}
+use borrow.Author.Tests.{ltb-true, le-leb, lt-leb, eq-eqb, ne-eqb}
 use Rattle.query.specs.declared.Query.{Query}
-use Rattle.query.specs.Conditions.{arcAt, askedInRange, arcInRange, arcsInRange, conditionsInRange, elementsMet}
+use Rattle.query.specs.Conditions.{arcAt, conditionsInRange, elementsMet}
 use Rattle.query.specs.Query.{matches, refusalOf}
 use Rattle.search.specs.declared.Tally.{Tally}
 use Rattle.search.specs.Days.{filtered, daysFrom, spanLength, matchingDays, visitedDays, visitLimit, Tallied}

@@ -9,7 +9,7 @@ use borrow.Author.Tests.{ltb-true, ltb-false, leb-true, le-ltb}
 use Rattle.longitudes.specs.Longitudes.{circle}
 use Rattle.query.specs.declared.Query.{Query}
 use Rattle.query.specs.declared.Arc.{Arc}
-use Rattle.query.specs.Conditions.{within, arcAt, arcInRange}
+use Rattle.query.specs.Conditions.{within, arcInRange}
 use Rattle.query.specs.Query.{sunInArc, nextDay}
 use Rattle.query.proofs.Accepted.{sunArc}
 use Rattle.search.proofs.Circle.{past, past-low, ahead-past}

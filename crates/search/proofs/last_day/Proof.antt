@@ -1,5 +1,4 @@
 -- `last_day` meets its contract: an accepted query ends by the last day there is.
-use borrow.Author.Needs.{needs}
 use native.Mathlib.Omega.{arith}
 use mathlib.Core.Path.{refl}
 use Rattle.query.proofs.Accepted.{accepted-by}

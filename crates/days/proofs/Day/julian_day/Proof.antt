@@ -1,9 +1,11 @@
--- `Day::julian_day` meets its contract: a pair in range keeps the sum small.
+-- `Day::julian_day` meets its contract: a pair in range has a number.
 use borrow.Author.Needs.{needs}
 use mathlib.Core.Bool.{true}
 use mathlib.Core.Path.{_≡_, sym, ap, _∙_}
+use Prim.Native.Nat.{ℕ, _+_}
 use native.Mathlib.Omega.{arith}
-use Rattle.days.specs.Days.{inRange, theNumber}
+use Rattle.days.specs.declared.NumberAnswer.{NumberAnswer}
+use Rattle.days.specs.Days.{inRange, count, theNumber, epochJulianDay}
 use Rattle.days.proofs.Laws.{in-range, given, refused}
 use Rattle.days.proofs.Day.julian_day.Statement.{statement}
 use Rattle.days.proofs.Day.julian_day.Tie as tie
@@ -14,20 +16,20 @@ ok c = sym (c .before .in-range .ensures) ∙ c .if1 .taken
 in-range-requires : tie.Need-in-range-requires
 in-range-requires c κs = search needs
 
-mul-number : tie.Need-mul-number
-mul-number c = omega (arith, in-range (c .before .before .before .args .self) (ok (c .before)))
+number-requires : tie.Need-number-requires
+number-requires c κs = search needs
+
+counted : (c : tie.After-number) → c .number .result .number ≡ count (c .before .before .before .args .self)
+counted c = ap (λ (a : NumberAnswer). a .number) (c .number .ensures ∙ given count _ (ok (c .before)))
 
 add-number : tie.Need-add-number
-add-number c = omega (arith, in-range (c .before .before .before .args .self) (ok (c .before)))
-
-add-number-2 : tie.Need-add-number-2
-add-number-2 c = omega (arith, in-range (c .before .before .before .before .args .self) (ok (c .before .before)))
+add-number c = omega (arith, counted (c .before), in-range (c .before .before .before .before .args .self) (ok (c .before .before)))
 
 returns : tie.Need-returns
-returns c = ap theNumber (omega arith) ∙ sym (given _ _ (ok (c .before .before)))
+returns c = ap (λ (n : ℕ). theNumber (epochJulianDay + n)) (counted (c .before)) ∙ sym (given _ _ (ok (c .before .before)))
 
 returns-2 : tie.Need-returns-2
 returns-2 c = sym (refused _ _ (sym (c .before .in-range .ensures) ∙ c .if1 .left))
 
 pub julian-day-spec : {M : Type 1} → statement M
-julian-day-spec = tie.close (tie.spec in-range-requires mul-number add-number add-number-2 returns returns-2)
+julian-day-spec = tie.close (tie.spec in-range-requires number-requires add-number returns returns-2)

@@ -1,10 +1,11 @@
--- `Day::weekday` meets its contract: a pair in range keeps the sum small.
+-- `Day::weekday` meets its contract: a pair in range has a number.
 use borrow.Author.Needs.{needs}
 use mathlib.Core.Bool.{true}
-use mathlib.Core.Path.{_≡_, sym, _∙_}
-use native.Mathlib.Omega.{arith}
-use Rattle.days.specs.Days.{inRange}
-use Rattle.days.proofs.Laws.{in-range, given, refused}
+use mathlib.Core.Path.{_≡_, sym, ap, _∙_}
+use Prim.Native.Nat.{ℕ}
+use Rattle.days.specs.declared.NumberAnswer.{NumberAnswer}
+use Rattle.days.specs.Days.{inRange, count, theNumber, weekdayOn}
+use Rattle.days.proofs.Laws.{given, refused}
 use Rattle.days.proofs.Day.weekday.Statement.{statement}
 use Rattle.days.proofs.Day.weekday.Tie as tie
 
@@ -14,17 +15,17 @@ ok c = sym (c .before .in-range .ensures) ∙ c .if1 .taken
 in-range-requires : tie.Need-in-range-requires
 in-range-requires c κs = search needs
 
-mul-number : tie.Need-mul-number
-mul-number c = omega (arith, in-range (c .before .before .before .args .self) (ok (c .before)))
+number-requires : tie.Need-number-requires
+number-requires c κs = search needs
 
-add-number : tie.Need-add-number
-add-number c = omega (arith, in-range (c .before .before .before .before .args .self) (ok (c .before .before)))
+counted : (c : tie.After-number) → c .number .result .number ≡ count (c .before .before .before .args .self)
+counted c = ap (λ (a : NumberAnswer). a .number) (c .number .ensures ∙ given count _ (ok (c .before)))
 
 returns : tie.Need-returns
-returns c = sym (given _ _ (ok (c .before .before)))
+returns c = ap (λ (n : ℕ). theNumber (weekdayOn n)) (counted (c .before)) ∙ sym (given _ _ (ok (c .before .before)))
 
 returns-2 : tie.Need-returns-2
 returns-2 c = sym (refused _ _ (sym (c .before .in-range .ensures) ∙ c .if1 .left))
 
 pub weekday-spec : {M : Type 1} → statement M
-weekday-spec = tie.close (tie.spec in-range-requires mul-number add-number returns returns-2)
+weekday-spec = tie.close (tie.spec in-range-requires number-requires returns returns-2)
