@@ -1,0 +1,124 @@
+#!/usr/bin/env python3
+"""Holds the must-fail edits to what they are for. An edit may hold several wrong answers, one for each of several functions; that the
+crate is refused says of one of them that it is, so the prover's log is read for each:
+
+- every function that the edit changes is refused, by a fact that fails in that function's own proof (or by `search`, where it has none);
+- where it changes a constant, a fact fails in the proof of a function that names it; where a meaning or a law, in some proof.
+
+A proof that no longer fits the code (a name that is not there, a step that hangs on a refused one) is no fact. docs/contracts.md must
+name every edit, and no edit that is not there.
+
+  python3 docs/check_edits.py    after `rt ci` or `rt must-fail`, whose logs it reads: prints a line for each complaint and then the counts,
+                                 and exits with 1 where there is a complaint"""
+import pathlib
+import re
+import sys
+
+ROOT = pathlib.Path(__file__).resolve().parent.parent
+PAGE = ROOT / "docs/contracts.md"
+ITEM = re.compile(r'( *)(?:pub )?(?:extern "C" )?(fn|const|impl|mod) (\w+)')
+ERROR = re.compile(r"\S*/(proofs/\S+\.antt):\d+:\d+: error: (.*)")
+FUNCTION = re.compile(r"fn (\S+): (not proved|no proof)(.*)")
+# What the prover says where a proof no longer fits the code.
+UNFIT = re.compile(r"can be named from here|has no field|was not admitted|not in scope|is no module|no module is found")
+NAME = re.compile(r"`(?:(\w+)/must-fail/)?([a-z]\w*_\w+)(\.edit)?`")
+
+
+def files(folder, part):
+    """The text of each file of a part of a crate's folder."""
+    return {str(path.relative_to(folder)): path.read_text(encoding="utf-8") for path in sorted((folder / part).rglob("*.*"))}
+
+
+def items(crate, sources):
+    """The text of each function, by its name in the log, and of each constant, by `const` and its name; under no name all else. By the
+    layout that `rt fmt` holds the files to, what opens at an indent ends at the next `}` of that indent, and a constant with a `;`."""
+    texts = {}
+    for path, text in sources.items():
+        module = [part for part in pathlib.PurePath(path).with_suffix("").parts[1:] if part not in ("lib", "main")]
+        opened = []
+        for line in text.splitlines():
+            start = ITEM.match(line)
+            if start and not (start[2] == "mod" and line.endswith(";")):
+                opened.append(start.groups())
+            indent, kind, name = opened[-1] if opened else ("", "", "")
+            if kind == "fn":
+                name = "::".join([crate, *module, *(part for _, _, part in opened)])
+            key = f"const {name}" if kind == "const" else name if kind == "fn" else ""
+            texts[key] = texts.get(key, "") + line + "\n"
+            if opened and (line.endswith(";") if kind == "const" else line == indent + "}"):
+                opened.pop()
+    return texts
+
+
+def changed(before, after):
+    return [name for name in sorted({*before, *after}) if before.get(name) != after.get(name)]
+
+
+def proof_of(function):
+    return "proofs/" + "/".join(function.split("::")[1:]) + "/Proof.antt"
+
+
+def complaints(crate, label):
+    """Each complaint on an edit, and how many wrong answers it holds."""
+    whole, edited = ROOT / "crates" / crate, ROOT / "target/must-fail" / crate / label
+    if not (edited / ".log").is_file():
+        return [f"there is no target/must-fail/{crate}/{label}/.log"], 0
+    log = (edited / ".log").read_text(encoding="utf-8", errors="replace").splitlines()
+    facts = {error[1] for error in map(ERROR.fullmatch, log) if error and not UNFIT.search(error[2])}
+    said = {line[1]: line for line in map(FUNCTION.fullmatch, log) if line}
+    facts |= {proof_of(name) for name, line in said.items() if line[2] == "no proof" and "`search` does not close" in line[3]}
+    before, after = (items(crate, files(folder, "src")) for folder in (whole, edited))
+    wrong = changed(before, after)
+    own = {name: proof_of(name) for name in {*before, *after} if name.startswith(crate + "::")}
+    found = []
+    for name in wrong:
+        if name in own and name not in said:
+            found.append(f"{name} is not refused")
+        elif name in own and own[name] not in facts:
+            found.append(f"no fact fails in {name}")
+        elif name.startswith("const "):
+            users = {own[user] for user in own if user not in wrong and re.search(rf"\b{name[6:]}\b", before[user])}
+            if not users & facts:
+                found.append(f"no fact fails in a function that names {name[6:]} and stands as it was")
+    meant = any(changed(files(whole, part), files(edited, part)) for part in ("specs", "proofs"))
+    if meant and not facts - {own[name] for name in wrong if name in own}:
+        found.append("no fact fails in a proof of what stands as it was")
+    if "" in wrong or not (wrong or meant):
+        found.append("it changes something else than functions and constants" if "" in wrong else "it changes nothing")
+    return found, len(wrong) + meant
+
+
+def named(page, edits, known):
+    """The edits that the page names, each by its label in a section whose heading names its crate or with its crate in front, and a
+    complaint for each name that is no edit's there and stands nowhere in the sources."""
+    found, faults, about, crates = set(), [], [], []
+    for number, line in enumerate(page.splitlines(), 1):
+        if line.startswith("#"):
+            here = [word for word in re.findall(r"\w+", line) if (ROOT / "crates" / word).is_dir()]
+            if line.startswith("## "):
+                about = here
+            crates = here or about
+            continue
+        for crate, label, ending in NAME.findall(line):
+            there = {(name, label) for name in ([crate] if crate else crates)} & edits
+            found |= there
+            if not there and (crate or ending or label not in known):
+                faults.append(f"docs/contracts.md:{number}: there is no edit `{label}` of {crate or ' or '.join(crates) or 'a crate'}")
+    return found, faults
+
+
+edits = {(path.parent.parent.name, path.stem) for path in ROOT.glob("crates/*/must-fail/*.edit")}
+known = {path.name for path in (ROOT / "crates").iterdir()}
+for path in ROOT.glob("crates/*/src/**/*.rt"):
+    known.update(re.findall(r"\w+", path.read_text(encoding="utf-8")))
+in_page, faults = named(PAGE.read_text(encoding="utf-8"), edits, known)
+answers = 0
+for crate, label in sorted(edits):
+    found, count = complaints(crate, label)
+    answers += count
+    faults += [f"{crate}/must-fail/{label}.edit: {fault}" for fault in found]
+faults += [f"{crate}/must-fail/{label}.edit: docs/contracts.md does not name it" for crate, label in sorted(edits - in_page)]
+for fault in faults:
+    print(fault)
+print(f"{len(edits)} edits, {answers} wrong answers, {len(faults)} complaints")
+sys.exit(bool(faults) or not edits)
