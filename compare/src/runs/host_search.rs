@@ -25,34 +25,38 @@ impl SearchCalls for HostSearch {
     const NAMES: [&'static str; 3] = ["graha_search", "graha_search_length", "graha_search_looked"];
 
     fn search(&self, list: &mut [u8]) -> u32 {
-        let HostSearch {
-            first,
-            last,
-            sun,
-            weekday,
-        } = *self;
         let (bytes, count) = (list.as_mut_ptr(), list.len());
-        unsafe { graha_search(first, last, sun.start, sun.width, weekday, bytes, count) }
+        unsafe {
+            graha_search(
+                self.first,
+                self.last,
+                self.sun.start,
+                self.sun.width,
+                self.weekday,
+                bytes,
+                count,
+            )
+        }
     }
 
     fn length(&self) -> u32 {
-        let HostSearch {
-            first,
-            last,
-            sun,
-            weekday,
-        } = *self;
-        graha_search_length(first, last, sun.start, sun.width, weekday)
+        graha_search_length(
+            self.first,
+            self.last,
+            self.sun.start,
+            self.sun.width,
+            self.weekday,
+        )
     }
 
     fn looked(&self) -> u32 {
-        let HostSearch {
-            first,
-            last,
-            sun,
-            weekday,
-        } = *self;
-        graha_search_looked(first, last, sun.start, sun.width, weekday)
+        graha_search_looked(
+            self.first,
+            self.last,
+            self.sun.start,
+            self.sun.width,
+            self.weekday,
+        )
     }
 
     fn input(&self) -> String {

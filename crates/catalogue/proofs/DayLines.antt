@@ -1,5 +1,5 @@
 -- The line of a day, put together from what is found of the day, and that it fits. Assumes nothing.
-use mathlib.Core.Path.{_≡_, ap}
+use mathlib.Core.Path.{_≡_, ap, _∙_}
 use mathlib.Core.List.{List, [], _∷_, _++_, append-assoc}
 use Prim.Native.Nat.{ℕ, zero, suc, _≤_, _<_}
 use native.Mathlib.Omega.{arith}
@@ -9,8 +9,9 @@ use Rattle.civil.specs.declared.Date.{Date}
 use Rattle.civil.specs.declared.DateAnswer.{DateAnswer}
 use Rattle.civil.specs.Answers.{dateOfDay}
 use Rattle.days.specs.declared.DayAnswer.{DayAnswer}
-use Rattle.days.specs.Days.{lastDay, pairAt, weekdayOn, dayOf}
-use Rattle.days.proofs.Laws.{that-day, no-such-day}
+use Rattle.days.specs.declared.NumberAnswer.{NumberAnswer}
+use Rattle.days.specs.Days.{lastDay, pairAt, weekdayOn, weekdayAt, weekdayOf, dayOf}
+use Rattle.days.proofs.Laws.{that-day, no-such-day, that-weekday, given}
 use Rattle.panchanga.specs.declared.Panchanga.{Panchanga}
 use Rattle.panchanga.specs.OnDays.{panchangaOf}
 use Rattle.sheet.specs.Sheets.{spaced}
@@ -47,16 +48,18 @@ unfolding dayLine dateOfDay
 of-pair n h = rw (le-leb n lastDay h)
 
 pub day-made :
-    (n : ℕ) (answer : DayAnswer) (found : DateAnswer) (name : List ℕ) (p : Panchanga) →
+    (n : ℕ) (answer : DayAnswer) (found : DateAnswer) (weekday : NumberAnswer) (name : List ℕ) (p : Panchanga) →
     answer ≡ dayOf n →
     answer .refusal ≡ 0 →
     found ≡ dateOfDay n →
-    name ≡ nameAt weekdayNames (weekdayOn n) →
+    weekday ≡ weekdayOf (answer .day) →
+    name ≡ nameAt weekdayNames (weekday .number) →
     p ≡ panchangaOf (answer .day) →
     together n (dateBytes (found .date)) name (elementBytes p) ≡ dayLine n
-day-made n answer found name p ea r ef en ep =
+day-made n answer found weekday name p ea r ef ew en ep =
     let k = that-day n answer ea r in
-    rw (ep, k .pair, ef, en) (of-pair n (k .number))
+    let w : weekday .number ≡ weekdayOn n = ap (λ (a : NumberAnswer). a .number) (ew ∙ given weekdayAt _ (k .range)) ∙ that-weekday k in
+    rw (ep, k .pair, ef, en, w) (of-pair n (k .number))
 
 pub name-short : (n : ℕ) → length (nameAt weekdayNames n) ≤ 9
 unfolding nameAt

@@ -54,9 +54,10 @@ pub fn day_line(day: u32) -> Line
     }
     let found = civil::date_of(day);
     let elements = panchanga::of_day(answer.day);
+    let weekday = answer.day.weekday();
     let names = values::WEEKDAYS;
-    let weekday = words::name_at(&names, (day % 7) as usize);
+    let name = words::name_at(&names, weekday.number as usize);
     let dated = put_date(Line::empty().number(day).byte(b' '), found.date);
-    let named = dated.byte(b' ').text(weekday);
+    let named = dated.byte(b' ').text(name);
     put_elements(named, elements).byte(b'\n')
 }

@@ -10,7 +10,7 @@ use borrow.Author.Tests.{ltb-true, lt-ltb, le-leb, lt-leb}
 use Rattle.days.specs.declared.Day.{Day}
 use Rattle.days.specs.declared.DayAnswer.{DayAnswer}
 use Rattle.days.specs.Refusals.{outOfRange}
-use Rattle.days.specs.Days.{cycleDays, cycles, lastDay, count, weekdayOn, pairAt, theDay, noDay, theNumber, noNumber, inRange, onDay, dayOf, nextOf}
+use Rattle.days.specs.Days.{cycleDays, cycles, lastDay, count, weekdayOn, weekdayAt, pairAt, theDay, noDay, theNumber, noNumber, inRange, onDay, dayOf, nextOf}
 
 -- what a pair in range keeps to
 pub in-range : (d : Day) → inRange d ≡ true → (d .cycle < cycles) × (d .within < cycleDays)
@@ -71,6 +71,9 @@ no-such-day n answer e r = go (decLe n lastDay)
 -- number and pair, both ways
 pub count-pair : (n : ℕ) → count (pairAt n) ≡ n
 count-pair n = omega arith
+
+pub that-weekday : {n : ℕ} {answer : DayAnswer} → ThatDay n answer → weekdayAt (answer .day) ≡ weekdayOn n
+that-weekday {n} known = ap weekdayAt (known .pair) ∙ ap weekdayOn (count-pair n)
 
 pub pair-count : (C A : ℕ) → A < cycleDays → pairAt (cycleDays * C + A) ≡ record { cycle = C; within = A }
 pair-count C A h =

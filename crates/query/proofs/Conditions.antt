@@ -10,7 +10,7 @@ use borrow.Author.Tests.{not-true, eq-eqb, ne-eqb}
 use Rattle.days.specs.declared.Day.{Day}
 use Rattle.days.specs.declared.DayAnswer.{DayAnswer}
 use Rattle.days.specs.Days.{inRange, pairAt, weekdayOn, weekdayAt}
-use Rattle.days.proofs.Laws.{ThatDay, count-pair}
+use Rattle.days.proofs.Laws.{ThatDay, that-weekday}
 use Rattle.longitudes.specs.Longitudes.{longitudeAt}
 use Rattle.panchanga.specs.declared.Panchanga.{Panchanga}
 use Rattle.panchanga.specs.OnDays.{tithiAt, nakshatraAt, yogaAt, panchangaOf}
@@ -118,7 +118,7 @@ module _ (q : Query) (d : Day) (found : Bool) (e : (within (arcAt (q .arcs) 0) (
 -- the weekday of a day, asked for and met, or another; or none asked for
 module _ (asked : Asked) (n : ℕ) (answer : DayAnswer) (known : ThatDay n answer) (found : ℕ) (e : found ≡ weekdayAt (answer .day)) (g : asked .given ≡ true) where
   on-day : found ≡ weekdayOn n
-  on-day = e ∙ ap weekdayAt (known .pair) ∙ ap weekdayOn (count-pair n)
+  on-day = e ∙ that-weekday known
 
   pub weekday-asked : found ≡ asked .value → meets asked (weekdayOn n) ≡ true
   unfolding meets

@@ -24,6 +24,9 @@ date-of-requires c κs = search needs
 of-day-requires : tie.Need-of-day-requires
 of-day-requires c κs = search needs
 
+weekday-requires : tie.Need-weekday-requires
+weekday-requires c κs = search needs
+
 slice-aggregate-name-at : tie.Need-slice-aggregate-name-at
 slice-aggregate-name-at c = search needs
 
@@ -60,10 +63,10 @@ byte-requires-3 c κs = search needs
 returns-2 : tie.Need-returns-2
 unfolding pieces separates inFront
 returns-2 c =
-    let made = day-made _ _ _ _ _ (c .before .before .before .before .before .before .before .before .before .before .before .before .before .before .from-number .ensures) (c .before .before .before .before .before .before .before .before .before .before .before .before .if1 .left) (c .before .before .before .before .before .before .before .before .before .before .before .date-of .ensures) (c .before .before .before .before .before .before .before .before .name-at .ensures) (c .before .before .before .before .before .before .before .before .before .before .of-day .ensures) in
+    let made = day-made _ _ _ _ _ _ (c .before .before .before .before .before .before .before .before .before .before .before .before .before .before .before .before .from-number .ensures) (c .before .before .before .before .before .before .before .before .before .before .before .before .before .before .if1 .left) (c .before .before .before .before .before .before .before .before .before .before .before .before .before .date-of .ensures) (c .before .before .before .before .before .before .before .before .before .before .before .weekday .ensures) (c .before .before .before .before .before .before .before .before .name-at .ensures) (c .before .before .before .before .before .before .before .before .before .before .before .before .of-day .ensures) in
     rw (← made)
-    (holds _ _ (together-fits (c .before .before .before .before .before .before .before .before .before .before .before .before .before .before .before .args .day) (c .before .before .before .before .before .before .before .before .before .before .before .date-of .result .date) (c .before .before .before .before .before .before .before .before .name-at .result .now) (c .before .before .before .before .before .before .before .before .before .before .of-day .result)
-    (record { number = omega (arith, c .before .before .before .before .before .before .before .before .before .before .before .before .before .before .before .fits .day); year = omega (arith, c .before .before .before .before .before .before .before .before .before .before .before .date-of .ok); month = omega (arith, c .before .before .before .before .before .before .before .before .before .before .before .date-of .ok); day = omega (arith, c .before .before .before .before .before .before .before .before .before .before .before .date-of .ok); tithi = omega (arith, c .before .before .before .before .before .before .before .before .before .before .of-day .ok); nakshatra = omega (arith, c .before .before .before .before .before .before .before .before .before .before .of-day .ok); yoga = omega (arith, c .before .before .before .before .before .before .before .before .before .before .of-day .ok); karana = omega (arith, c .before .before .before .before .before .before .before .before .before .before .of-day .ok) })
+    (holds _ _ (together-fits (c .before .before .before .before .before .before .before .before .before .before .before .before .before .before .before .before .before .args .day) (c .before .before .before .before .before .before .before .before .before .before .before .before .before .date-of .result .date) (c .before .before .before .before .before .before .before .before .name-at .result .now) (c .before .before .before .before .before .before .before .before .before .before .before .before .of-day .result)
+    (record { number = omega (arith, c .before .before .before .before .before .before .before .before .before .before .before .before .before .before .before .before .before .fits .day); year = omega (arith, c .before .before .before .before .before .before .before .before .before .before .before .before .before .date-of .ok); month = omega (arith, c .before .before .before .before .before .before .before .before .before .before .before .before .before .date-of .ok); day = omega (arith, c .before .before .before .before .before .before .before .before .before .before .before .before .before .date-of .ok); tithi = omega (arith, c .before .before .before .before .before .before .before .before .before .before .before .before .of-day .ok); nakshatra = omega (arith, c .before .before .before .before .before .before .before .before .before .before .before .before .of-day .ok); yoga = omega (arith, c .before .before .before .before .before .before .before .before .before .before .before .before .of-day .ok); karana = omega (arith, c .before .before .before .before .before .before .before .before .before .before .before .before .of-day .ok) })
     (rw (c .before .before .before .before .before .before .before .before .name-at .ensures) (name-short _)))
     (rw (c .byte3 .ensures, c .before .put-elements .ensures, c .before .before .text .ensures, c .before .before .before .byte2 .ensures, c .before .before .before .before .put-date .ensures, c .before .before .before .before .before .byte .ensures, c .before .before .before .before .before .before .number .ensures, c .before .before .before .before .before .before .before .empty2 .ensures) (put-together _ _ _ _ _)))
 
@@ -76,6 +79,7 @@ day-line-spec =
     returns
     date-of-requires
     of-day-requires
+    weekday-requires
     slice-aggregate-name-at
     cast-name-at
     name-at-requires
