@@ -6,15 +6,12 @@ use mathlib.Core.List.{List}
 use Prim.Native.Nat.{ℕ, zero, suc, _<_}
 use native.Mathlib.Omega.{arith}
 use lib.Dec.{lit<}
-use borrow.Author.Tests.{not-true, eq-eqb, ne-eqb}
+use borrow.Author.Tests.{not-true}
 use Rattle.days.specs.declared.Day.{Day}
-use Rattle.days.specs.declared.DayAnswer.{DayAnswer}
-use Rattle.days.specs.Days.{inRange, pairAt, weekdayOn, weekdayAt}
-use Rattle.days.proofs.Laws.{ThatDay, that-weekday}
+use Rattle.days.specs.Days.{inRange, pairAt, weekdayOn}
 use Rattle.longitudes.specs.Longitudes.{longitudeAt}
 use Rattle.panchanga.specs.declared.Panchanga.{Panchanga}
 use Rattle.panchanga.specs.OnDays.{tithiAt, nakshatraAt, yogaAt, panchangaOf}
-use Rattle.query.specs.declared.Asked.{Asked}
 use Rattle.query.specs.declared.Arc.{Arc}
 use Rattle.query.specs.declared.Query.{Query}
 use Rattle.query.specs.Conditions.{eachBody, meets, within, arcAt, arcInRange, arcsInRange, arcsMet, elementsMet, AsksNoMore}
@@ -114,23 +111,6 @@ module _ (q : Query) (d : Day) (found : Bool) (e : (within (arcAt (q .arcs) 0) (
   elements-decide elements f g =
       ap (λ (b : Bool). sun && b) g
       ∙ ap (λ (b : Bool). b && elementsMet q d) (sym (and-true sun) ∙ ap (λ (b : Bool). sun && b) (sym f) ∙ e)
-
--- the weekday of a day, asked for and met, or another; or none asked for
-module _ (asked : Asked) (n : ℕ) (answer : DayAnswer) (known : ThatDay n answer) (found : ℕ) (e : found ≡ weekdayAt (answer .day)) (g : asked .given ≡ true) where
-  on-day : found ≡ weekdayOn n
-  on-day = e ∙ that-weekday known
-
-  pub weekday-asked : found ≡ asked .value → meets asked (weekdayOn n) ≡ true
-  unfolding meets
-  weekday-asked v = rw g (eq-eqb _ _ (sym on-day ∙ v))
-
-  pub weekday-another : (found ≡ asked .value → ⊥) → meets asked (weekdayOn n) ≡ false
-  unfolding meets
-  weekday-another v = rw g (ne-eqb _ _ (λ w. v (on-day ∙ w)))
-
-pub not-asked : (asked : Asked) (n : ℕ) → asked .given ≡ false → meets asked n ≡ true
-unfolding meets
-not-asked asked n g = rw g
 
 -- a weekday that is not met decides, and one that is met does where nothing more is asked
 module _ (q : Query) (n : ℕ) where

@@ -5,8 +5,9 @@ use longitudes::Body;
 use longitudes::CIRCLE;
 ghost use mathlib.Core.Path.{_≡_};
 ghost use mathlib.Core.Bool.{true, false, _&&_};
-ghost use Prim.Native.Nat.{ℕ, _<_};
-ghost use Rattle.days.specs.Days.{inRange, weekdayAt};
+ghost use Prim.Native.Nat.{ℕ, _<_, _≤_};
+ghost use lib.Dec.{eqb};
+ghost use Rattle.days.specs.Days.{inRange, weekdayOn};
 ghost use Rattle.longitudes.specs.Longitudes.{difference, longitudeAt};
 ghost use Rattle.longitudes.specs.Answers.{bodyNumber};
 ghost use Rattle.panchanga.specs.OnDays.{nakshatraAt};
@@ -246,12 +247,26 @@ fn nakshatra_met(asked: Asked, day: Day) -> bool
     }
 }
 
-fn weekday_on(day: Day) -> u32
-    requires { ⌜ inRange day ≡ true ⌝ }
-    ensures { λ r. ⌜ r ≡ weekdayAt day ⌝ }
+// Whether seven divides the days since the weekday was last: one product, where the weekday itself takes a division.
+fn has_weekday(number: u32, weekday: u32) -> bool
+    requires { ⌜ number ≤ 401599 ⌝ }
+    ensures { λ r. ⌜ r ≡ eqb (weekdayOn number) weekday ⌝ }
 {
-    let weekday = day.weekday();
-    weekday.number
+    if 6 < weekday {
+        return false;
+    }
+    (number + 7 - weekday) % 7 == 0
+}
+
+fn weekday_met(asked: Asked, number: u32) -> bool
+    requires { ⌜ number ≤ 401599 ⌝ }
+    ensures { λ r. ⌜ r ≡ meets asked (weekdayOn number) ⌝ }
+{
+    if asked.given {
+        has_weekday(number, asked.value)
+    } else {
+        true
+    }
 }
 
 // The conditions that are dear to test: the other bodies' arcs, then the elements.
@@ -310,10 +325,8 @@ pub fn examine(query: Query, day: u32) -> Examined
     let more = asks_more(query);
     let arc = query.arcs[0];
     if !arc.given {
-        if asked.given {
-            if weekday_on(pair.day) != asked.value {
-                return told(false, day + 1);
-            }
+        if !weekday_met(asked, day) {
+            return told(false, day + 1);
         }
         if !more {
             return told(true, day + 1);
@@ -323,10 +336,8 @@ pub fn examine(query: Query, day: u32) -> Examined
     let sun = longitudes::mean_longitude(Body::Sun, pair.day);
     let past = longitudes::difference(sun.number, arc.start);
     if past < arc.width {
-        if asked.given {
-            if weekday_on(pair.day) != asked.value {
-                return told(false, day + 1);
-            }
+        if !weekday_met(asked, day) {
+            return told(false, day + 1);
         }
         if !more {
             return told(true, day + 1);

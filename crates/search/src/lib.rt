@@ -1,5 +1,4 @@
 // The search: every day that matches a query, written to a list of bytes, or nothing.
-use days::Day;
 use days::refusal;
 use query::Query;
 ghost use mathlib.Core.Path.{_≡_};
@@ -46,18 +45,6 @@ fn put_if(writing: bool, list: &mut [u8], at: usize, day: u32)
     }
 }
 
-// The query's last day. No accepted query has a later one than the last there is; said here, this spares the loop a test for it.
-fn last_day(query: Query) -> u32
-    requires { ⌜ refusalOf query ≡ 0 ⌝ }
-    ensures { λ r. ⌜ r ≡ query .last ⌝ }
-{
-    if query.last <= Day::LAST {
-        query.last
-    } else {
-        Day::LAST
-    }
-}
-
 // One pass over the visited days: it counts, and where `writing` is set it writes the matching days to the list too.
 fn scan(query: Query, writing: bool, list: &mut [u8]) -> Tally
     requires { ⌜ refusalOf query ≡ 0 ⌝ }
@@ -65,7 +52,7 @@ fn scan(query: Query, writing: bool, list: &mut [u8]) -> Tally
     ensures { λ t. ⌜ Tallied query t ⌝ }
     ensures { λ _. ⌜ now (list .exit) ≡ cond writing (withEntries (matchingDays query) (now (list .entry))) (now (list .entry)) ⌝ }
 {
-    let last = last_day(query);
+    let last = query.last;
     let mut day = query.first;
     let mut length: u32 = 0;
     let mut examined: u32 = 0;

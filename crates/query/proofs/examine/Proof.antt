@@ -2,16 +2,14 @@
 use borrow.Author.Needs.{needs}
 use borrow.Author.Tests.{not-true, not-false}
 use mathlib.Core.Bool.{true}
-use mathlib.Core.Logic.{⊎-elim}
-use mathlib.Core.Path.{_≡_, ap, _∙_}
+use mathlib.Core.Path.{_≡_, sym, ap, _∙_}
 use native.Mathlib.Omega.{arith}
 use Rattle.days.specs.declared.NumberAnswer.{NumberAnswer}
-use Rattle.days.specs.Days.{weekdayOn}
 use Rattle.days.proofs.Laws.{ThatDay, that-day, no-such-day, given}
 use Rattle.longitudes.specs.Longitudes.{difference, longitudeAt}
 use Rattle.longitudes.proofs.Subtraction.{is-small}
-use Rattle.query.specs.Conditions.{arcAt, meets, within}
-use Rattle.query.proofs.Conditions.{weekday-asked, weekday-another, not-asked, weekday-not-met, no-more}
+use Rattle.query.specs.Conditions.{arcAt, within}
+use Rattle.query.proofs.Conditions.{weekday-not-met, no-more}
 use Rattle.query.proofs.Scan.{untold, outside, no-arc, in-arc, by-weekday, by-others}
 use Rattle.query.proofs.examine.Statement.{statement}
 use Rattle.query.proofs.examine.Tie as tie
@@ -34,57 +32,52 @@ element-copy-out-arc c = search needs
 inside : (c : tie.Then2) → within (arcAt (c .before .before .before .before .before .before .before .before .args .t1 .arcs) 0) (longitudeAt 0 (c .before .before .before .before .before .before .before .from-number .result .day)) ≡ true
 inside c = let k = the-day (c .before .before .before .before .before) in no-arc (c .before .before .before .before .before .before .before .before .args .t1) _ _ (k .pair) (k .number) (not-true _ (c .if2 .taken))
 
-met : (c : tie.Joined3) → meets (c .before .before .before .before .before .before .before .before .before .args .t1 .weekday) (weekdayOn (c .before .before .before .before .before .before .before .before .before .args .day)) ≡ true
-met c =
-    ⊎-elim
-    (λ w. weekday-asked (c .before .before .before .before .before .before .before .before .before .args .t1 .weekday) _ _ (the-day (c .before .before .before .before .before .before)) _ (w .1 .ensures) (w .0 .taken) (w .3 .left))
-    (λ w. not-asked (c .before .before .before .before .before .before .before .before .before .args .t1 .weekday) _ (w .left))
-    (c .if3 .came)
-
-weekday-on-requires : tie.Need-weekday-on-requires
-weekday-on-requires c κs = the-day (c .before .before .before .before .before .before) .range
+weekday-met-requires : tie.Need-weekday-met-requires
+weekday-met-requires c κs = the-day (c .before .before .before .before .before) .number
 
 add-told : tie.Need-add-told
-add-told c = omega (arith, the-day (c .before .before .before .before .before .before .before .before .before) .number)
+add-told c = omega (arith, the-day (c .before .before .before .before .before .before .before) .number)
 
 told-requires : tie.Need-told-requires
 told-requires c κs = search needs
 
 returns-2 : tie.Need-returns-2
 returns-2 c =
-    let k = the-day (c .before .before .before .before .before .before .before .before .before .before) in
-    let q = c .before .before .before .before .before .before .before .before .before .before .before .before .before .args .t1 in
+    let k = the-day (c .before .before .before .before .before .before .before .before) in
+    let q = c .before .before .before .before .before .before .before .before .before .before .before .args .t1 in
     c .told .ensures
-    ∙ by-weekday q _ _ (k .pair) (k .number) (inside (c .before .before .before .before .before)) _
-    (weekday-not-met q _ (weekday-another (q .weekday) _ _ k _ (c .before .before .before .weekday-on .ensures) (c .before .before .before .before .if3 .taken) (c .before .if4 .taken)))
+    ∙ by-weekday q _ _ (k .pair) (k .number) (inside (c .before .before .before)) _
+    (weekday-not-met q _ (sym (c .before .before .weekday-met .ensures) ∙ not-true _ (c .before .if3 .taken)))
 
 add-told-2 : tie.Need-add-told-2
-add-told-2 c = omega (arith, the-day (c .before .before .before .before .before .before .before) .number)
+add-told-2 c = omega (arith, the-day (c .before .before .before .before .before .before .before .before) .number)
 
 told-requires-2 : tie.Need-told-requires-2
 told-requires-2 c κs = search needs
 
 returns-3 : tie.Need-returns-3
 returns-3 c =
-    let k = the-day (c .before .before .before .before .before .before .before .before) in
-    let q = c .before .before .before .before .before .before .before .before .before .before .before .args .t1 in
+    let k = the-day (c .before .before .before .before .before .before .before .before .before) in
+    let q = c .before .before .before .before .before .before .before .before .before .before .before .before .args .t1 in
     c .told2 .ensures
-    ∙ by-weekday q _ _ (k .pair) (k .number) (inside (c .before .before .before)) _ (no-more q _ (c .before .before .before .before .before .before .asks-more .ensures (not-true _ (c .before .if5 .taken))) (met (c .before .before)))
+    ∙ by-weekday q _ _ (k .pair) (k .number) (inside (c .before .before .before .before)) _
+    (no-more q _ (c .before .before .before .before .before .before .before .asks-more .ensures (not-true _ (c .before .if4 .taken))) (sym (c .before .before .before .weekday-met .ensures) ∙ not-false _ (c .before .before .if3 .left)))
 
 others-met-requires : tie.Need-others-met-requires
-others-met-requires c κs = the-day (c .before .before .before .before .before .before .before) .range
+others-met-requires c κs = the-day (c .before .before .before .before .before .before .before .before) .range
 
 add-told-3 : tie.Need-add-told-3
-add-told-3 c = omega (arith, the-day (c .before .before .before .before .before .before .before .before) .number)
+add-told-3 c = omega (arith, the-day (c .before .before .before .before .before .before .before .before .before) .number)
 
 told-requires-3 : tie.Need-told-requires-3
 told-requires-3 c κs = search needs
 
 returns-4 : tie.Need-returns-4
 returns-4 c =
-    let k = the-day (c .before .before .before .before .before .before .before .before .before) in
-    let q = c .before .before .before .before .before .before .before .before .before .before .before .before .args .t1 in
-    c .told3 .ensures ∙ by-others q _ _ (k .pair) (k .number) (inside (c .before .before .before .before)) _ (met (c .before .before .before)) (c .before .others-met .ensures)
+    let k = the-day (c .before .before .before .before .before .before .before .before .before .before) in
+    let q = c .before .before .before .before .before .before .before .before .before .before .before .before .before .args .t1 in
+    c .told3 .ensures
+    ∙ by-others q _ _ (k .pair) (k .number) (inside (c .before .before .before .before .before)) _ (sym (c .before .before .before .before .weekday-met .ensures) ∙ not-false _ (c .before .before .before .if3 .left)) (c .before .others-met .ensures)
 
 mean-longitude-requires : tie.Need-mean-longitude-requires
 mean-longitude-requires c κs = search needs
@@ -98,60 +91,55 @@ sun c = ap (λ (n : NumberAnswer). n .number) (c .mean-longitude .ensures ∙ gi
 past : (c : tie.After-difference) → c .difference .result ≡ difference (longitudeAt 0 (c .before .before .before .before .before .before .before .before .before .from-number .result .day)) (arcAt (c .before .before .before .before .before .before .before .before .before .before .args .t1 .arcs) 0 .start)
 past c = c .difference .ensures ∙ rw (sun (c .before))
 
-inside-2 : (c : tie.Then6) → within (arcAt (c .before .before .before .before .before .before .before .before .before .before .before .before .args .t1 .arcs) 0) (longitudeAt 0 (c .before .before .before .before .before .before .before .before .before .before .before .from-number .result .day)) ≡ true
-inside-2 c = let k = the-day (c .before .before .before .before .before .before .before .before .before) in in-arc (c .before .before .before .before .before .before .before .before .before .before .before .before .args .t1) _ _ (k .pair) (k .number) _ (not-false _ (c .before .before .before .before .if2 .left)) (past (c .before .before)) (c .if6 .taken)
+inside-2 : (c : tie.Then5) → within (arcAt (c .before .before .before .before .before .before .before .before .before .before .before .before .args .t1 .arcs) 0) (longitudeAt 0 (c .before .before .before .before .before .before .before .before .before .before .before .from-number .result .day)) ≡ true
+inside-2 c = let k = the-day (c .before .before .before .before .before .before .before .before .before) in in-arc (c .before .before .before .before .before .before .before .before .before .before .before .before .args .t1) _ _ (k .pair) (k .number) _ (not-false _ (c .before .before .before .before .if2 .left)) (past (c .before .before)) (c .if5 .taken)
 
-met-2 : (c : tie.Joined7) → meets (c .before .before .before .before .before .before .before .before .before .before .before .before .before .args .t1 .weekday) (weekdayOn (c .before .before .before .before .before .before .before .before .before .before .before .before .before .args .day)) ≡ true
-met-2 c =
-    ⊎-elim
-    (λ w. weekday-asked (c .before .before .before .before .before .before .before .before .before .before .before .before .before .args .t1 .weekday) _ _ (the-day (c .before .before .before .before .before .before .before .before .before .before)) _ (w .1 .ensures) (w .0 .taken) (w .3 .left))
-    (λ w. not-asked (c .before .before .before .before .before .before .before .before .before .before .before .before .before .args .t1 .weekday) _ (w .left))
-    (c .if7 .came)
-
-weekday-on-requires-2 : tie.Need-weekday-on-requires-2
-weekday-on-requires-2 c κs = the-day (c .before .before .before .before .before .before .before .before .before .before) .range
+weekday-met-requires-2 : tie.Need-weekday-met-requires-2
+weekday-met-requires-2 c κs = the-day (c .before .before .before .before .before .before .before .before .before) .number
 
 add-told-4 : tie.Need-add-told-4
-add-told-4 c = omega (arith, the-day (c .before .before .before .before .before .before .before .before .before .before .before .before .before) .number)
+add-told-4 c = omega (arith, the-day (c .before .before .before .before .before .before .before .before .before .before .before) .number)
 
 told-requires-4 : tie.Need-told-requires-4
 told-requires-4 c κs = search needs
 
 returns-5 : tie.Need-returns-5
 returns-5 c =
-    let k = the-day (c .before .before .before .before .before .before .before .before .before .before .before .before .before .before) in
-    let q = c .before .before .before .before .before .before .before .before .before .before .before .before .before .before .before .before .before .args .t1 in
+    let k = the-day (c .before .before .before .before .before .before .before .before .before .before .before .before) in
+    let q = c .before .before .before .before .before .before .before .before .before .before .before .before .before .before .before .args .t1 in
     c .told4 .ensures
-    ∙ by-weekday q _ _ (k .pair) (k .number) (inside-2 (c .before .before .before .before .before)) _
-    (weekday-not-met q _ (weekday-another (q .weekday) _ _ k _ (c .before .before .before .weekday-on2 .ensures) (c .before .before .before .before .if7 .taken) (c .before .if8 .taken)))
+    ∙ by-weekday q _ _ (k .pair) (k .number) (inside-2 (c .before .before .before)) _
+    (weekday-not-met q _ (sym (c .before .before .weekday-met2 .ensures) ∙ not-true _ (c .before .if6 .taken)))
 
 add-told-5 : tie.Need-add-told-5
-add-told-5 c = omega (arith, the-day (c .before .before .before .before .before .before .before .before .before .before .before) .number)
+add-told-5 c = omega (arith, the-day (c .before .before .before .before .before .before .before .before .before .before .before .before) .number)
 
 told-requires-5 : tie.Need-told-requires-5
 told-requires-5 c κs = search needs
 
 returns-6 : tie.Need-returns-6
 returns-6 c =
-    let k = the-day (c .before .before .before .before .before .before .before .before .before .before .before .before) in
-    let q = c .before .before .before .before .before .before .before .before .before .before .before .before .before .before .before .args .t1 in
+    let k = the-day (c .before .before .before .before .before .before .before .before .before .before .before .before .before) in
+    let q = c .before .before .before .before .before .before .before .before .before .before .before .before .before .before .before .before .args .t1 in
     c .told5 .ensures
-    ∙ by-weekday q _ _ (k .pair) (k .number) (inside-2 (c .before .before .before)) _ (no-more q _ (c .before .before .before .before .before .before .before .before .before .before .asks-more .ensures (not-true _ (c .before .if9 .taken))) (met-2 (c .before .before)))
+    ∙ by-weekday q _ _ (k .pair) (k .number) (inside-2 (c .before .before .before .before)) _
+    (no-more q _ (c .before .before .before .before .before .before .before .before .before .before .before .asks-more .ensures (not-true _ (c .before .if7 .taken))) (sym (c .before .before .before .weekday-met2 .ensures) ∙ not-false _ (c .before .before .if6 .left)))
 
 others-met-requires-2 : tie.Need-others-met-requires-2
-others-met-requires-2 c κs = the-day (c .before .before .before .before .before .before .before .before .before .before .before) .range
+others-met-requires-2 c κs = the-day (c .before .before .before .before .before .before .before .before .before .before .before .before) .range
 
 add-told-6 : tie.Need-add-told-6
-add-told-6 c = omega (arith, the-day (c .before .before .before .before .before .before .before .before .before .before .before .before) .number)
+add-told-6 c = omega (arith, the-day (c .before .before .before .before .before .before .before .before .before .before .before .before .before) .number)
 
 told-requires-6 : tie.Need-told-requires-6
 told-requires-6 c κs = search needs
 
 returns-7 : tie.Need-returns-7
 returns-7 c =
-    let k = the-day (c .before .before .before .before .before .before .before .before .before .before .before .before .before) in
-    let q = c .before .before .before .before .before .before .before .before .before .before .before .before .before .before .before .before .args .t1 in
-    c .told6 .ensures ∙ by-others q _ _ (k .pair) (k .number) (inside-2 (c .before .before .before .before)) _ (met-2 (c .before .before .before)) (c .before .others-met2 .ensures)
+    let k = the-day (c .before .before .before .before .before .before .before .before .before .before .before .before .before .before) in
+    let q = c .before .before .before .before .before .before .before .before .before .before .before .before .before .before .before .before .before .args .t1 in
+    c .told6 .ensures
+    ∙ by-others q _ _ (k .pair) (k .number) (inside-2 (c .before .before .before .before .before)) _ (sym (c .before .before .before .before .weekday-met2 .ensures) ∙ not-false _ (c .before .before .before .if6 .left)) (c .before .others-met2 .ensures)
 
 difference-requires-2 : tie.Need-difference-requires-2
 difference-requires-2 c κs = search needs
@@ -172,7 +160,7 @@ returns-8 : tie.Need-returns-8
 returns-8 c =
     let k = the-day (c .before .before .before .before .before .before .before .before .before .before .before) in
     c .told7 .ensures
-    ∙ outside _ _ _ (k .pair) (k .number) _ _ (not-false _ (c .before .before .before .before .before .before .if2 .left)) (past (c .before .before .before .before)) (c .before .before .if6 .left) (c .before .difference2 .ensures ∙ rw (sun (c .before .before .before .before .before)))
+    ∙ outside _ _ _ (k .pair) (k .number) _ _ (not-false _ (c .before .before .before .before .before .before .if2 .left)) (past (c .before .before .before .before)) (c .before .before .if5 .left) (c .before .difference2 .ensures ∙ rw (sun (c .before .before .before .before .before)))
 
 pub examine-spec : {M : Type 1} → statement M
 examine-spec =
@@ -182,7 +170,7 @@ examine-spec =
     returns
     asks-more-requires
     element-copy-out-arc
-    weekday-on-requires
+    weekday-met-requires
     add-told
     told-requires
     returns-2
@@ -195,7 +183,7 @@ examine-spec =
     returns-4
     mean-longitude-requires
     difference-requires
-    weekday-on-requires-2
+    weekday-met-requires-2
     add-told-4
     told-requires-4
     returns-5

@@ -14,20 +14,14 @@ Inv-loop query writing list₀ last day₀ length₀ examined₀ latest₀ list 
 abbrev μ-loop : tie.MeasureT-loop
 μ-loop query writing list₀ last day₀ length₀ examined₀ latest₀ list day length examined latest = last + 1 - day
 
-last-day-requires : tie.Need-last-day-requires Inv-loop μ-loop
-last-day-requires c κs = c .before .pre .0
-
 loop-holds : tie.Need-loop-holds Inv-loop μ-loop
-loop-holds c = scanning-start _ _ _ (c .before .before .pre .0) (c .before .before .pre .1)
+loop-holds c = scanning-start _ _ _ (c .before .pre .0) (c .before .pre .1)
 
 examine-requires : tie.Need-examine-requires Inv-loop μ-loop
 examine-requires c κs = search needs
 
-in-span : (c : tie.In-loop Inv-loop μ-loop) → c .before .loop .day ≤ c .before .before .before .before .args .query .last
-in-span c = rw (c .before .before .last-day .ensures) at (c .loop-test .taken)
-
-seen : (c : tie.After-examine Inv-loop μ-loop) → Visit (c .before .before .before .before .before .args .query) (c .before .before .loop .day) (c .examine .result)
-seen c = visit _ _ _ (c .before .before .before .before .before .pre .0) (in-span (c .before)) (c .examine .ensures)
+seen : (c : tie.After-examine Inv-loop μ-loop) → Visit (c .before .before .before .before .args .query) (c .before .before .loop .day) (c .examine .result)
+seen c = visit _ _ _ (c .before .before .before .before .pre .0) (c .before .loop-test .taken) (c .examine .ensures)
 
 add-examined : tie.Need-add-examined Inv-loop μ-loop
 add-examined c = omega (arith, seen c)
@@ -43,7 +37,7 @@ mul-put-if c = omega (arith, few (c .before .before))
 
 put-if-requires : tie.Need-put-if-requires Inv-loop μ-loop
 put-if-requires c κs =
-    scanning-room _ _ _ (c .before .before .before .before .before .before .before .pre .0) (c .before .before .before .before .before .before .before .pre .1) _ _ _ _ _ (c .before .before .before .before .loop .inv) (in-span (c .before .before .before)) (rw (seen (c .before .before) .told) at (c .before .if1 .taken))
+    scanning-room _ _ _ (c .before .before .before .before .before .before .pre .0) (c .before .before .before .before .before .before .pre .1) _ _ _ _ _ (c .before .before .before .before .loop .inv) (c .before .before .before .loop-test .taken) (rw (seen (c .before .before) .told) at (c .before .if1 .taken))
 
 add-length : tie.Need-add-length Inv-loop μ-loop
 add-length c = omega (arith, few (c .before .before .before .before .before))
@@ -55,7 +49,7 @@ loop-again : tie.Need-loop-again Inv-loop μ-loop
 loop-again c =
     let e = seen (c .before .before .before .before .before) .told in
     rw e
-    (scanning-in _ _ _ (c .before .before .before .before .before .before .before .before .before .before .pre .0) (c .before .before .before .before .before .before .before .before .before .before .pre .1) _ _ _ _ _ (c .before .before .before .before .before .before .before .loop .inv) (in-span (c .before .before .before .before .before .before)) _ (rw e at (c .before .before .before .before .if1 .taken)) (c .before .before .put-if .ensures))
+    (scanning-in _ _ _ (c .before .before .before .before .before .before .before .before .before .pre .0) (c .before .before .before .before .before .before .before .before .before .pre .1) _ _ _ _ _ (c .before .before .before .before .before .before .before .loop .inv) (c .before .before .before .before .before .before .loop-test .taken) _ (rw e at (c .before .before .before .before .if1 .taken)) (c .before .before .put-if .ensures))
 
 loop-less-2 : tie.Need-loop-less-2 Inv-loop μ-loop
 loop-less-2 c = omega (arith, seen (c .before))
@@ -64,13 +58,13 @@ loop-again-2 : tie.Need-loop-again-2 Inv-loop μ-loop
 loop-again-2 c =
     let e = seen (c .before) .told in
     rw e
-    (scanning-out _ _ _ (c .before .before .before .before .before .before .pre .0) (c .before .before .before .before .before .before .pre .1) _ _ _ _ _ (c .before .before .before .loop .inv) (in-span (c .before .before)) (rw e at (c .if1 .left)))
+    (scanning-out _ _ _ (c .before .before .before .before .before .pre .0) (c .before .before .before .before .before .pre .1) _ _ _ _ _ (c .before .before .before .loop .inv) (c .before .before .loop-test .taken) (rw e at (c .if1 .left)))
 
 same-length : tie.Need-same-length Inv-loop μ-loop
-same-length c = scanning-length _ _ _ (c .before .before .before .before .pre .0) (c .before .before .before .before .pre .1) _ _ _ _ _ (c .before .loop .inv)
+same-length c = scanning-length _ _ _ (c .before .before .before .pre .0) (c .before .before .before .pre .1) _ _ _ _ _ (c .before .loop .inv)
 
 returns : tie.Need-returns Inv-loop μ-loop
-returns c = scanning-end _ _ _ (c .before .before .before .before .pre .0) (c .before .before .before .before .pre .1) _ _ _ _ _ (c .before .loop .inv) _ (rw (c .before .before .last-day .ensures) at (c .loop-test .left)) refl
+returns c = scanning-end _ _ _ (c .before .before .before .pre .0) (c .before .before .before .pre .1) _ _ _ _ _ (c .before .loop .inv) _ (c .loop-test .left) refl
 
 pub scan-spec : {M : Type 1} → statement M
 scan-spec =
@@ -78,7 +72,6 @@ scan-spec =
     (tie.spec
     Inv-loop
     μ-loop
-    last-day-requires
     loop-holds
     examine-requires
     add-examined
