@@ -1,5 +1,4 @@
 -- `weekday_met` meets its contract: the test is the meaning's.
-use mathlib.Core.Path.{_∙_}
 use Rattle.query.specs.Conditions.{meets}
 use Rattle.query.proofs.weekday_met.Statement.{statement}
 use Rattle.query.proofs.weekday_met.Tie as tie
