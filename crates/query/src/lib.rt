@@ -247,7 +247,7 @@ fn nakshatra_met(asked: Asked, day: Day) -> bool
     }
 }
 
-// Whether seven divides the days since the weekday was last: one product, where the weekday itself takes a division.
+// Whether a day has the weekday: seven divides its number less the weekday. The compiler makes one product of that, where the weekday itself takes a division.
 fn has_weekday(number: u32, weekday: u32) -> bool
     requires { ⌜ number ≤ 401599 ⌝ }
     ensures { λ r. ⌜ r ≡ eqb (weekdayOn number) weekday ⌝ }
