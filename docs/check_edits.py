@@ -3,7 +3,8 @@
 crate is refused says of one of them that it is, so the prover's log is read for each:
 
 - every function that the edit changes is refused, by a fact that fails in that function's own proof (or by `search`, where it has none);
-- where it changes a constant, a fact fails in the proof of a function that names it; where a meaning or a law, in some proof.
+- where the edit changes what a function promises too, or brings a new one, it may be proved: then a fact fails in a function that names it;
+- where it changes a constant or a struct, a fact fails in the proof of a function that names it; where a meaning or a law, in some proof.
 
 A proof that no longer fits the code (a name that is not there, a step that hangs on a refused one) is no fact. docs/contracts.md must
 name every edit, and no edit that is not there.
@@ -16,9 +17,10 @@ import sys
 
 ROOT = pathlib.Path(__file__).resolve().parent.parent
 PAGE = ROOT / "docs/contracts.md"
-ITEM = re.compile(r'( *)(?:pub )?(?:extern "C" )?(fn|const|impl|mod) (\w+)')
+ITEM = re.compile(r'( *)(?:pub )?(?:extern "C" )?(fn|const|struct|impl|mod) (\w+)')
 ERROR = re.compile(r"\S*/(proofs/\S+\.antt):\d+:\d+: error: (.*)")
-FUNCTION = re.compile(r"fn (\S+): (not proved|no proof)(.*)")
+FUNCTION = re.compile(r"fn (\S+): (proved|not proved|no proof)(.*)")
+CLAUSE = re.compile(r"(?:requires|ensures) \{.*?⌝ \}", re.S)
 # What the prover says where a proof no longer fits the code.
 UNFIT = re.compile(r"can be named from here|has no field|was not admitted|not in scope|is no module|no module is found")
 NAME = re.compile(r"`(?:(\w+)/must-fail/)?([a-z]\w*_\w+)(\.edit)?`")
@@ -30,22 +32,26 @@ def files(folder, part):
 
 
 def items(crate, sources):
-    """The text of each function, by its name in the log, and of each constant, by `const` and its name; under no name all else. By the
-    layout that `rt fmt` holds the files to, what opens at an indent ends at the next `}` of that indent, and a constant with a `;`."""
+    """The text of each function, by its name in the log, and of each constant and struct, by that word and its name; under no name all
+    else but what `ghost use` brings. By the layout that `rt fmt` holds the files to, what opens at an indent ends at the next `}` of that
+    indent, and a constant with a `;`. An edit's text is one line, in which a function may stand whole and another begin."""
     texts = {}
     for path, text in sources.items():
         module = [part for part in pathlib.PurePath(path).with_suffix("").parts[1:] if part not in ("lib", "main")]
         opened = []
-        for line in text.splitlines():
+        for line in text.replace("} fn ", "}\nfn ").splitlines():
+            if line.startswith("ghost use"):
+                continue
             start = ITEM.match(line)
             if start and not (start[2] == "mod" and line.endswith(";")):
                 opened.append(start.groups())
             indent, kind, name = opened[-1] if opened else ("", "", "")
             if kind == "fn":
                 name = "::".join([crate, *module, *(part for _, _, part in opened)])
-            key = f"const {name}" if kind == "const" else name if kind == "fn" else ""
+            key = name if kind == "fn" else f"{kind} {name}" if kind in ("const", "struct") else ""
             texts[key] = texts.get(key, "") + line + "\n"
-            if opened and (line.endswith(";") if kind == "const" else line == indent + "}"):
+            whole = start and line.endswith("}") and line.count("{") == line.count("}")
+            if opened and (line.endswith(";") if kind == "const" else whole or line == indent + "}"):
                 opened.pop()
     return texts
 
@@ -70,9 +76,11 @@ def complaints(crate, label):
     before, after = (items(crate, files(folder, "src")) for folder in (whole, edited))
     wrong = changed(before, after)
     own = {name: proof_of(name) for name in {*before, *after} if name.startswith(crate + "::")}
-    found = []
+    found, apart = [], []
     for name in wrong:
-        if name in own and name not in said:
+        if name.startswith("struct ") or name in said and said[name][2] == "proved" and CLAUSE.findall(before.get(name, "")) != CLAUSE.findall(after[name]):
+            apart.append(name)
+        elif name in own and (name not in said or said[name][2] == "proved"):
             found.append(f"{name} is not refused")
         elif name in own and own[name] not in facts:
             found.append(f"no fact fails in {name}")
@@ -80,12 +88,16 @@ def complaints(crate, label):
             users = {own[user] for user in own if user not in wrong and re.search(rf"\b{name[6:]}\b", before[user])}
             if not users & facts:
                 found.append(f"no fact fails in a function that names {name[6:]} and stands as it was")
+    reached = [name for name in own if own[name] in facts]
+    for user in reached:
+        reached += [name for name in apart if name not in reached and re.search(rf"\b{re.split('::| ', name)[-1]}\b", after.get(user, ""))]
+    found += [f"no fact fails in a function that names {name}" for name in apart if name not in reached]
     meant = any(changed(files(whole, part), files(edited, part)) for part in ("specs", "proofs"))
     if meant and not facts - {own[name] for name in wrong if name in own}:
         found.append("no fact fails in a proof of what stands as it was")
     if "" in wrong or not (wrong or meant):
-        found.append("it changes something else than functions and constants" if "" in wrong else "it changes nothing")
-    return found, len(wrong) + meant
+        found.append("it changes something else than functions, constants and structs" if "" in wrong else "it changes nothing")
+    return found, len(wrong) - len(apart) + meant
 
 
 def named(page, edits, known):

@@ -12,7 +12,7 @@ use Rattle.query.specs.declared.Query.{Query}
 use Rattle.query.specs.Conditions.{arcAt, conditionsInRange, elementsMet}
 use Rattle.query.specs.Query.{matches, refusalOf}
 use Rattle.search.specs.declared.Tally.{Tally}
-use Rattle.search.specs.Days.{filtered, daysFrom, spanLength, matchingDays, visitedDays, visitLimit, Tallied}
+use Rattle.search.specs.Days.{filtered, daysFrom, spanLength, until, matchingDays, visitedDays, visitLimit, Tallied}
 use Rattle.search.specs.Search.{withEntries, capacity, resultOf, listAfter, Measured, Searched}
 use Rattle.query.proofs.Accepted.{accepted-by, accepts}
 use Rattle.search.proofs.Filter.{filtered-end, filtered-short}
@@ -62,19 +62,6 @@ module _ (q : Query) where
           let f = eq-eqb (refusalOf q) 0 e in
           let t = le-leb (length (matchingDays q)) (capacity l) (omega arith) in
           record { result = rw (f, t); count = rw f c; visits = rw f v; limit = limited; list = rw (f, t) w }
-
--- the query with its span cut off behind a day
-abbrev pub until : Query → ℕ → Query
-until q d =
-    record {
-      first = q .first;
-      last = d;
-      weekday = q .weekday;
-      tithi = q .tithi;
-      nakshatra = q .nakshatra;
-      yoga = q .yoga;
-      arcs = q .arcs;
-    }
 
 module _ (q : Query) (t : Tally) (e : refusalOf q ≡ 0) (c : Tallied q t) where
   pub until-accepted : refusalOf (until q (t .latest)) ≡ 0

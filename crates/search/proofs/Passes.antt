@@ -7,12 +7,13 @@ use mathlib.Core.List.{List, [], _∷_, _++_, append-assoc, append-nil}
 use native.Mathlib.Omega.{arith}
 use native.Mathlib.Decide.{decLe}
 use lib.ListN.{length, drop, length-append, length-drop}
+use lib.Seq.{drop-drop}
 use Rattle.days.specs.Days.{lastDay}
 use Rattle.query.specs.declared.Query.{Query}
 use Rattle.query.specs.declared.Examined.{Examined}
 use Rattle.query.specs.Conditions.{arcInRange}
 use Rattle.query.specs.Query.{matches, nextDay, examinedOf, refusalOf}
-use Rattle.search.specs.Days.{filtered, visitedDays, matchingDays, Tallied}
+use Rattle.search.specs.Days.{filtered, visitedDays, matchingDays, VisitAt, Tallied}
 use Rattle.search.specs.declared.Tally.{Tally}
 use Rattle.search.specs.Search.{entries, withEntry, withEntries}
 use Rattle.query.proofs.Accepted.{sunArc, accepted-by}
@@ -49,6 +50,14 @@ pub record Counting (q : Query) (d n k : ℕ) : Type 0 where
 counting-start : (q : Query) → Counting q (q .first) 0 0
 unfolding visitedDays
 counting-start q = omega arith
+
+-- what is left of the visited days after k of them is the visits from day d on
+abbrev Left : Query → ℕ → ℕ → Type 0
+Left q d k = drop k (visitedDays q) ≡ rest q d
+
+left-start : (q : Query) → Left q (q .first) 0
+unfolding visitedDays
+left-start q = refl
 
 -- after `latest` no day before d matches
 pub record Latest (q : Query) (d latest : ℕ) : Type 0 where
@@ -90,6 +99,12 @@ module _ (q : Query) (r : arcInRange (sunArc q) ≡ true) where
 
   counting-end : (d n k : ℕ) → q .last < d → Counting q d n k → (n ≡ length (matchingDays q)) × (k ≡ length (visitedDays q))
   counting-end d n k h c = omega (arith, ap length (ahead-end d h), ap length (rest-end q r d h), ap length (matching-visited q r))
+
+  left-next : (d k : ℕ) → d ≤ q .last → Left q d k → Left q (nextDay q d) (k + 1)
+  left-next d k h e = sym (drop-drop 1 k (visitedDays q)) ∙ ap (drop 1) (e ∙ rest-more q r d h)
+
+  left-visit : (d k : ℕ) → d ≤ q .last → Left q d k → VisitAt q k d
+  left-visit d k h e = e ∙ rest-more q r d h ∙ ap (λ (t : List ℕ). d ∷ t) (sym (left-next d k h e))
 
   between : (d m : ℕ) → d < m → m < nextDay q d → matches q m ≡ false
   between d m h l =
@@ -174,6 +189,7 @@ module _ (q : Query) (r : arcInRange (sunArc q) ≡ true) where
 -- all that holds of a pass before the visit of day d
 pub record Scanning (q : Query) (writing : Bool) (l m : List ℕ) (d n k latest : ℕ) : Type 0 where
   pub counting : Counting q d n k
+  pub left : Left q d k
   pub last-match : Latest q d latest
   pub progress : Progress writing q l m d n
 
@@ -181,7 +197,12 @@ module _ (q : Query) (writing : Bool) (l : List ℕ) (e : refusalOf q ≡ 0) (ro
   pub scanning-start : Scanning q writing l l (q .first) 0 0 (q .first)
   scanning-start =
       let a = accepted-by q e in
-      record { counting = counting-start q; last-match = latest-start q (a .first); progress = progress-start q (a .sun) writing l }
+      record {
+        counting = counting-start q;
+        left = left-start q;
+        last-match = latest-start q (a .first);
+        progress = progress-start q (a .sun) writing l;
+      }
 
   module _ (m : List ℕ) (d n k latest : ℕ) (s : Scanning q writing l m d n k latest) where
     pub scanning-length : length m ≡ length l
@@ -193,23 +214,34 @@ module _ (q : Query) (writing : Bool) (l : List ℕ) (e : refusalOf q ≡ 0) (ro
         (rw t (tallied q r d (record { length = n; examined = k; latest = latest }) h (s .counting) (s .last-match)), progress-end q r l m d n writing h (s .progress))
 
     module _ (h : d ≤ q .last) where
-      pub scanning-room : matches q d ≡ true → writing ≡ true → 4 * n + 4 ≤ length m
-      scanning-room f w = progress-room q (accepted-by q e .sun) l m d n h writing room f (s .progress) w
+      pub scanning-visit : VisitAt q k d
+      scanning-visit = left-visit q (accepted-by q e .sun) d k h (s .left)
 
-      pub scanning-in : (x : List ℕ) → matches q d ≡ true → x ≡ cond writing (withEntry m (4 * n) d) m → Scanning q writing l x (nextDay q d) (n + 1) (k + 1) d
-      scanning-in x f w =
-          let r = accepted-by q e .sun in
-          record {
-            counting = counting-in q r d n k h (s .counting) f;
-            last-match = latest-in q r d latest h (omega (arith, s .counting .gone));
-            progress = progress-in q r l m d n h writing x f w (s .progress);
-          }
+      module _ (seen : Examined) (v : Visit q d seen) where
+        matched : (b : Bool) → seen .matches ≡ b → matches q d ≡ b
+        matched b f = sym (ap (λ (x : Examined). x .matches) (v .told)) ∙ f
 
-      pub scanning-out : matches q d ≡ false → Scanning q writing l m (nextDay q d) n (k + 1) latest
-      scanning-out f =
-          let r = accepted-by q e .sun in
-          record {
-            counting = counting-out q r d n k h (s .counting) f;
-            last-match = latest-out q r d latest f (s .last-match);
-            progress = progress-out q r l m d n h writing f (s .progress);
-          }
+        pub scanning-room : seen .matches ≡ true → writing ≡ true → 4 * n + 4 ≤ length m
+        scanning-room f w = progress-room q (accepted-by q e .sun) l m d n h writing room (matched true f) (s .progress) w
+
+        pub scanning-in : (x : List ℕ) → seen .matches ≡ true → x ≡ cond writing (withEntry m (4 * n) d) m → Scanning q writing l x (seen .next) (n + 1) (k + 1) d
+        scanning-in x f w =
+            let r = accepted-by q e .sun in
+            rw (v .told)
+            (record {
+              counting = counting-in q r d n k h (s .counting) (matched true f);
+              left = left-next q r d k h (s .left);
+              last-match = latest-in q r d latest h (omega (arith, s .counting .gone));
+              progress = progress-in q r l m d n h writing x (matched true f) w (s .progress);
+            })
+
+        pub scanning-out : seen .matches ≡ false → Scanning q writing l m (seen .next) n (k + 1) latest
+        scanning-out f =
+            let r = accepted-by q e .sun in
+            rw (v .told)
+            (record {
+              counting = counting-out q r d n k h (s .counting) (matched false f);
+              left = left-next q r d k h (s .left);
+              last-match = latest-out q r d latest (matched false f) (s .last-match);
+              progress = progress-out q r l m d n h writing (matched false f) (s .progress);
+            })

@@ -5,7 +5,7 @@ use mathlib.Core.List.{List, [], _∷_}
 use mathlib.Core.Path.{_≡_}
 use Prim.Native.Nat.{ℕ, zero, suc, _+_, _-_, _*_, _/_, _<_, _≤_}
 use lib.Dec.{leb}
-use lib.ListN.{length}
+use lib.ListN.{length, drop}
 use Rattle.query.specs.declared.Query.{Query}
 use Rattle.search.specs.declared.Tally.{Tally}
 use Rattle.query.specs.Query.{matches, sunInArc, nextDay}
@@ -40,9 +40,26 @@ visitedFrom q (suc n) d = elim (leb d (q .last)) [ true ↦ d ∷ visitedFrom q 
 unfoldable pub visitedDays : Query → List ℕ
 visitedDays q = visitedFrom q (spanLength q) (q .first)
 
+-- day d is the walk's number k, counted from 0
+abbrev pub VisitAt : Query → ℕ → ℕ → Type 0
+VisitAt q k d = drop k (visitedDays q) ≡ d ∷ drop (k + 1) (visitedDays q)
+
 -- the days of the span with the mean Sun in its arc, plus four, plus two for each whole 360 days of the span
 unfoldable pub visitLimit : Query → ℕ
 visitLimit q = length (filtered (sunInArc q) (span q)) + 4 + 2 * (spanLength q / 360)
+
+-- the query with its span cut off behind day d
+abbrev pub until : Query → ℕ → Query
+until q d =
+    record {
+      first = q .first;
+      last = d;
+      weekday = q .weekday;
+      tithi = q .tithi;
+      nakshatra = q .nakshatra;
+      yoga = q .yoga;
+      arcs = q .arcs;
+    }
 
 -- what a pass over the visited days tells: the two numbers, and a day of the span after which none matches
 pub record Tallied (q : Query) (tally : Tally) : Type 0 where

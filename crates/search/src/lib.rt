@@ -1,12 +1,13 @@
 // The search: every day that matches a query, written to a list of bytes, or nothing.
 use days::refusal;
+use query::Examined;
 use query::Query;
 ghost use mathlib.Core.Path.{_≡_};
 ghost use mathlib.Core.Bool.{true, cond};
 ghost use Prim.Native.Nat.{_+_, _*_, _≤_};
 ghost use lib.ListN.{length};
-ghost use Rattle.query.specs.Query.{refusalOf};
-ghost use Rattle.search.specs.Days.{matchingDays, Tallied};
+ghost use Rattle.query.specs.Query.{refusalOf, examinedOf};
+ghost use Rattle.search.specs.Days.{until, matchingDays, VisitAt, Tallied};
 ghost use Rattle.search.specs.Search.{withEntry, withEntries, Measured, Searched};
 
 // The bytes of an entry of the list.
@@ -45,6 +46,31 @@ fn put_if(writing: bool, list: &mut [u8], at: usize, day: u32)
     }
 }
 
+// Where a pass is: the day to examine, and how many were examined before it.
+struct Place {
+    day: u32,
+    examined: u32,
+}
+
+// The search's only way to examine a day. By what it requires, that is the day whose turn it is in paper 01's walk and no other.
+fn visit(query: Query, place: Place) -> Examined
+    requires { ⌜ VisitAt query (place .examined) (place .day) ⌝ }
+    ensures { λ r. ⌜ r ≡ examinedOf query (place .day) ⌝ }
+{
+    query::examine(query, place.day)
+}
+
+// The place after a visit: the day handed back, with one more examined before it.
+fn onward(place: Place, seen: Examined) -> Place
+    requires { ⌜ place .examined ≤ 401599 ⌝ }
+    ensures { λ r. ⌜ r ≡ record { day = seen .next; examined = place .examined + 1 } ⌝ }
+{
+    Place {
+        day: seen.next,
+        examined: place.examined + 1,
+    }
+}
+
 // One pass over the visited days: it counts, and where `writing` is set it writes the matching days to the list too.
 fn scan(query: Query, writing: bool, list: &mut [u8]) -> Tally
     requires { ⌜ refusalOf query ≡ 0 ⌝ }
@@ -53,23 +79,25 @@ fn scan(query: Query, writing: bool, list: &mut [u8]) -> Tally
     ensures { λ _. ⌜ now (list .exit) ≡ cond writing (withEntries (matchingDays query) (now (list .entry))) (now (list .entry)) ⌝ }
 {
     let last = query.last;
-    let mut day = query.first;
+    let mut place = Place {
+        day: query.first,
+        examined: 0,
+    };
     let mut length: u32 = 0;
-    let mut examined: u32 = 0;
-    let mut latest = day;
-    while day <= last {
-        let seen = query::examine(query, day);
-        examined += 1;
+    let mut latest = query.first;
+    while place.day <= last {
+        let seen = visit(query, place);
+        let next = onward(place, seen);
         if seen.matches {
-            put_if(writing, list, ENTRY * length as usize, day);
+            put_if(writing, list, ENTRY * length as usize, place.day);
             length += 1;
-            latest = day;
+            latest = place.day;
         }
-        day = seen.next;
+        place = next;
     }
     Tally {
         length,
-        examined,
+        examined: place.examined,
         latest,
     }
 }
@@ -92,6 +120,19 @@ fn refused(refusal: u32) -> Found
         length: 0,
         examined: 0,
     }
+}
+
+// The second pass, for the days that the first one counted: it writes them and goes no further than the last. Each day is counted once, so the numbers told are the first pass's.
+fn write(query: Query, counted: Tally, list: &mut [u8]) -> Found
+    requires { ⌜ refusalOf (until query (counted .latest)) ≡ 0 ⌝ }
+    requires { ⌜ 4 * length (matchingDays (until query (counted .latest))) ≤ length (now list) ⌝ }
+    ensures { λ f. ⌜ f ≡ record { refusal = 0; length = counted .length; examined = counted .examined } ⌝ }
+    ensures { λ _. ⌜ now (list .exit) ≡ withEntries (matchingDays (until query (counted .latest))) (now (list .entry)) ⌝ }
+{
+    let mut shortened = query;
+    shortened.last = counted.latest;
+    scan(shortened, true, list);
+    told(refusal::NONE, counted)
 }
 
 // How many days match and how many the search examines, with no list.
@@ -129,9 +170,5 @@ pub fn search(query: Query, list: &mut [u8]) -> Found
     if needed == 0 {
         return told(refusal::NONE, tally);
     }
-    // No day after the last one that matched is gone over again.
-    let mut shortened = query;
-    shortened.last = tally.latest;
-    scan(shortened, true, list);
-    told(refusal::NONE, tally)
+    write(query, tally, list)
 }

@@ -71,25 +71,22 @@ returns-4 c =
     rw (c .told3 .ensures, rw (c .before .before .before .before .if2 .left) at (c .before .before .before .before .before .before .before .scan .ensures .1))
     (all-written _ _ _ _ (sym (c .before .before .before .before .before .before .before .before .before .before .before .refusal .ensures) ∙ c .before .before .before .before .before .before .before .before .before .before .if1 .left) (t .count) (t .visits) _ (c .before .before .if3 .left) (no-entries _ _ (omega (arith, t .count, c .before .if4 .taken))))
 
-scan-requires-2 : tie.Need-scan-requires-2
-scan-requires-2 c κs =
+write-requires : tie.Need-write-requires
+write-requires c κs =
     let e = sym (c .before .before .before .before .before .before .before .before .before .before .before .refusal .ensures) ∙ c .before .before .before .before .before .before .before .before .before .before .if1 .left in
     let t = c .before .before .before .before .before .before .before .scan .ensures .0 in
-    (until-accepted _ _ e t, λ w. omega (arith, ap length (until-matching _ _ e t), t .count, c .before .before .if3 .left, ap length (rw (c .before .before .before .before .if2 .left) at (c .before .before .before .before .before .before .before .scan .ensures .1))))
-
-told-requires-4 : tie.Need-told-requires-4
-told-requires-4 c κs = search needs
+    (until-accepted _ _ e t, omega (arith, ap length (until-matching _ _ e t), t .count, c .before .before .if3 .left, ap length (rw (c .before .before .before .before .if2 .left) at (c .before .before .before .before .before .before .before .scan .ensures .1))))
 
 same-length-4 : tie.Need-same-length-4
 same-length-4 c = search needs
 
 returns-5 : tie.Need-returns-5
 returns-5 c =
-    let e = sym (c .before .before .before .before .before .before .before .before .before .before .before .before .before .before .before .refusal .ensures) ∙ c .before .before .before .before .before .before .before .before .before .before .before .before .before .before .if1 .left in
-    let t = c .before .before .before .before .before .before .before .before .before .before .before .scan .ensures .0 in
-    let kept = rw (c .before .before .before .before .before .before .before .before .if2 .left) at (c .before .before .before .before .before .before .before .before .before .before .before .scan .ensures .1) in
-    rw (c .told4 .ensures)
-    (all-written _ _ _ _ e (t .count) (t .visits) _ (c .before .before .before .before .before .before .if3 .left) (rw (kept, until-matching _ _ e t) at (c .before .before .before .scan2 .ensures .1)))
+    let e = sym (c .before .before .before .before .before .before .before .before .before .before .before .before .before .before .refusal .ensures) ∙ c .before .before .before .before .before .before .before .before .before .before .before .before .before .if1 .left in
+    let t = c .before .before .before .before .before .before .before .before .before .before .scan .ensures .0 in
+    let kept = rw (c .before .before .before .before .before .before .before .if2 .left) at (c .before .before .before .before .before .before .before .before .before .before .scan .ensures .1) in
+    rw (c .before .before .write .ensures .0)
+    (all-written _ _ _ _ e (t .count) (t .visits) _ (c .before .before .before .before .before .if3 .left) (rw (kept, until-matching _ _ e t) at (c .before .before .write .ensures .1)))
 
 pub search-spec : {M : Type 1} → statement M
 search-spec =
@@ -111,7 +108,6 @@ search-spec =
     told-requires-3
     same-length-3
     returns-4
-    scan-requires-2
-    told-requires-4
+    write-requires
     same-length-4
     returns-5)
