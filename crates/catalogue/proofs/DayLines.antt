@@ -17,11 +17,11 @@ use Rattle.panchanga.specs.OnDays.{panchangaOf}
 use Rattle.sheet.specs.Sheets.{spaced}
 use Rattle.text.specs.Decimal.{digitsOf}
 use Rattle.text.specs.declared.Line.{Line}
-use Rattle.text.specs.Lines.{capacity, withByte, withBytes}
+use Rattle.text.specs.Lines.{space, newline, capacity, withByte, withBytes}
 use Rattle.text.proofs.Lines.{with-byte-is, with-bytes-append}
 use Rattle.text.proofs.Printing.{digits-length}
 use Rattle.values.specs.Names.{weekdayNames}
-use Rattle.words.specs.Words.{newline, space, nameAt}
+use Rattle.words.specs.Words.{nameAt}
 use Rattle.catalogue.specs.Catalogue.{heading, dateBytes, elementBytes, dayLine}
 
 -- the bytes of a line, from a day's number, date, weekday's name and elements

@@ -11,8 +11,9 @@ use Rattle.panchanga.specs.declared.Panchanga.{Panchanga}
 use Rattle.panchanga.specs.OnDays.{panchangaOf}
 use Rattle.sheet.specs.Sheets.{spaced}
 use Rattle.text.specs.Decimal.{digitsOf}
+use Rattle.text.specs.Lines.{space, newline}
 use Rattle.values.specs.Names.{weekdayNames}
-use Rattle.words.specs.Words.{newline, space, dash, nameAt}
+use Rattle.words.specs.Words.{dash, nameAt}
 
 -- `found`, the length, `looked`, the number of days looked at, and the heading
 unfoldable pub heading : ℕ → ℕ → List ℕ

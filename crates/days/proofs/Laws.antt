@@ -72,9 +72,6 @@ no-such-day n answer e r = go (decLe n lastDay)
 pub count-pair : (n : ℕ) → count (pairAt n) ≡ n
 count-pair n = omega arith
 
-pub that-weekday : {n : ℕ} {answer : DayAnswer} → ThatDay n answer → weekdayAt (answer .day) ≡ weekdayOn n
-that-weekday {n} known = ap weekdayAt (known .pair) ∙ ap weekdayOn (count-pair n)
-
 pub pair-count : (C A : ℕ) → A < cycleDays → pairAt (cycleDays * C + A) ≡ record { cycle = C; within = A }
 pair-count C A h =
     let q : (cycleDays * C + A) / cycleDays ≡ C = omega arith in
@@ -87,6 +84,10 @@ day-of-pair C A h k = day-of (cycleDays * C + A) (omega arith) ∙ ap theDay (pa
 -- the weekday is (5 C + A) mod 7
 pub weekday-by-pair : (d : Day) → (5 * d .cycle + d .within) % 7 ≡ weekdayOn (count d)
 weekday-by-pair d = omega arith
+
+-- the weekday of the pair that is handed back for a number is the number's
+pub that-weekday : {n : ℕ} {answer : DayAnswer} → ThatDay n answer → weekdayAt (answer .day) ≡ weekdayOn n
+that-weekday {n} known = ap weekdayAt (known .pair) ∙ ap weekdayOn (count-pair n)
 
 pub next-within : (d : Day) → inRange d ≡ true → d .within < 4015 → nextOf d ≡ theDay (record { cycle = d .cycle; within = d .within + 1 })
 unfolding nextOf

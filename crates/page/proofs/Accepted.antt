@@ -22,10 +22,11 @@ use Rattle.query.proofs.Conditions.{arcs-true, arcs-false}
 use Rattle.query.proofs.Accepted.{accepted-by}
 use Rattle.text.specs.declared.NumberRead.{NumberRead}
 use Rattle.text.specs.Decimal.{isNumber, numberRead}
+use Rattle.text.specs.Lines.{newline}
 use Rattle.values.specs.declared.Three.{Three}
 use Rattle.values.specs.Names.{weekdayNames}
 use Rattle.values.specs.Values.{isRead, threeRead, sexagesimal, dateRead, numberOr, angleRead, dayRead, weekdayRead, noneRead}
-use Rattle.words.specs.Words.{newline, dash, colon, pieces, placeIn}
+use Rattle.words.specs.Words.{dash, colon, pieces, placeIn}
 use Rattle.page.specs.Names.{keywords}
 use Rattle.page.specs.declared.LineRead.{LineRead}
 use Rattle.page.specs.declared.Fault.{Fault}

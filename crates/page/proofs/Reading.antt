@@ -8,7 +8,8 @@ use native.Mathlib.Omega.{arith}
 use native.Mathlib.Numerals.{add-one}
 use borrow.Author.Tests.{ne-eqb}
 use lib.ListN.{length}
-use Rattle.words.specs.Words.{newline, run, upTo, behind, pieces}
+use Rattle.text.specs.Lines.{newline}
+use Rattle.words.specs.Words.{run, upTo, behind, pieces}
 use Rattle.words.proofs.Runs.{run-le}
 use Rattle.words.proofs.Pieces.{pieces-first, pieces-last, pieces-more, behind-shorter}
 use Rattle.days.specs.Refusals.{badInput}

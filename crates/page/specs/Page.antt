@@ -14,11 +14,12 @@ use Rattle.query.specs.Conditions.{notAsked, noArc}
 use Rattle.query.specs.Query.{refusalOf}
 use Rattle.text.specs.declared.NumberRead.{NumberRead}
 use Rattle.text.specs.Decimal.{numberRead}
+use Rattle.text.specs.Lines.{newline}
 use Rattle.page.specs.declared.LineRead.{LineRead}
 use Rattle.page.specs.declared.Fault.{Fault}
 use Rattle.page.specs.declared.Page.{Page}
 use Rattle.page.specs.declared.PageRead.{PageRead}
-use Rattle.words.specs.Words.{newline, hash, upTo, firstWord, afterWord, pieces, placeIn}
+use Rattle.words.specs.Words.{hash, upTo, firstWord, afterWord, pieces, placeIn}
 use Rattle.page.specs.Names.{keywords}
 use Rattle.values.specs.Values.{angleRead, dayRead, weekdayRead, noneRead}
 

@@ -8,9 +8,9 @@ use lib.ListN.{length, getD, drop, drop-of-length-le}
 use lib.Seq.{drop-cons}
 use Rattle.text.specs.declared.Line.{Line}
 use Rattle.text.specs.Decimal.{digitsOf}
-use Rattle.text.specs.Lines.{withByte, withBytes}
+use Rattle.text.specs.Lines.{space, withByte, withBytes}
 use Rattle.text.proofs.Lines.{with-bytes-none, with-bytes-more, with-bytes-append}
-use Rattle.sheet.specs.Sheets.{space, spaced}
+use Rattle.sheet.specs.Sheets.{spaced}
 
 -- before the number at i is put on the line m; l is the line at the start
 abbrev pub Putting : Line → List ℕ → Line → ℕ → Type 0

@@ -6,7 +6,8 @@ use native.Mathlib.Omega.{arith}
 use lib.ListN.{length, getD, take}
 use borrow.Author.Tests.{le-leb, lt-leb, eq-eqb, ne-eqb}
 use Rattle.text.specs.Decimal.{badNumber, numberRead}
-use Rattle.sheet.specs.Sheets.{newline, isLine, lineRead}
+use Rattle.text.specs.Lines.{newline}
+use Rattle.sheet.specs.Sheets.{isLine, lineRead}
 
 pub none-refused : (s : List ℕ) → length s ≡ 0 → badNumber ≡ lineRead s
 unfolding lineRead isLine

@@ -7,7 +7,8 @@ use Rattle.panchanga.specs.TrueLongitudes.{bhuja, equation, signed, corrected, 
 use Rattle.panchanga.specs.Elements.{karanaAfter}
 use Rattle.panchanga.specs.OnDays.{trueSunAt, trueMoonAt, tithiAt, nakshatraAt, yogaAt, karanaAt}
 use Rattle.text.specs.Decimal.{isDigit, allDigits, withDigit, valueOf, isNumber, numberRead, digitsWithin, digitsOf}
-use Rattle.sheet.specs.Sheets.{space, newline, heading, refusalLine, spaced, columns, twoLines, sheetOfNumber, isLine, lineRead, sheetOf}
+use Rattle.text.specs.Lines.{space, newline}
+use Rattle.sheet.specs.Sheets.{heading, refusalLine, spaced, columns, twoLines, sheetOfNumber, isLine, lineRead, sheetOf}
 
 -- `33649`: the heading, and `33649 8 1521 0 128648 737042 14 15 18 7`
 pub printed :

@@ -11,12 +11,7 @@ use Rattle.days.specs.Days.{lastDay, pairAt, weekdayOn}
 use Rattle.panchanga.specs.OnDays.{trueSunAt, trueMoonAt, tithiAt, nakshatraAt, yogaAt, karanaAt}
 use Rattle.text.specs.declared.NumberRead.{NumberRead}
 use Rattle.text.specs.Decimal.{badNumber, numberRead, digitsOf}
-
-abbrev pub space : ℕ
-space = 32
-
-abbrev pub newline : ℕ
-newline = 10
+use Rattle.text.specs.Lines.{space, newline}
 
 unfoldable pub heading : List ℕ
 heading =

@@ -6,6 +6,13 @@ use lib.Dec.{ltb}
 use lib.ListN.{take, set, replicate}
 use Rattle.text.specs.declared.Line.{Line}
 
+-- the byte between two words of a line, and the one that ends it
+abbrev pub space : ℕ
+space = 32
+
+abbrev pub newline : ℕ
+newline = 10
+
 -- the bytes that a line has room for
 abbrev pub capacity : ℕ
 capacity = 128

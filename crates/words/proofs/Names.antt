@@ -7,7 +7,8 @@ use native.Mathlib.Omega.{arith}
 use borrow.Author.Tests.{ltb-false}
 use lib.Dec.{ltb}
 use lib.ListN.{length, drop-of-length-le}
-use Rattle.words.specs.Words.{space, run, upTo, behind, pieces, nameAt}
+use Rattle.text.specs.Lines.{space}
+use Rattle.words.specs.Words.{run, upTo, behind, pieces, nameAt}
 use Rattle.words.proofs.Pieces.{laterPieces, pieces-first}
 
 name-first : (bs : List ℕ) → nameAt (pieces space bs) 0 ≡ upTo space bs

@@ -8,7 +8,8 @@ use native.Mathlib.Omega.{arith}
 use borrow.Author.Tests.{eqb-true, eq-eqb}
 use lib.Dec.{eqb}
 use lib.ListN.{length}
-use Rattle.words.specs.Words.{space, run, upTo, behind, pieces, same, placeIn}
+use Rattle.text.specs.Lines.{space}
+use Rattle.words.specs.Words.{run, upTo, behind, pieces, same, placeIn}
 use Rattle.words.proofs.Runs.{run-le}
 use Rattle.words.proofs.Pieces.{laterPieces, pieces-first, pieces-last, pieces-more, up-to-whole, behind-shorter}
 

@@ -5,14 +5,9 @@ use mathlib.Core.List.{List, [], _∷_}
 use Prim.Native.Nat.{ℕ, suc}
 use lib.Dec.{eqb}
 use lib.ListN.{getD, take, drop}
+use Rattle.text.specs.Lines.{space}
 
--- the separators, by their bytes: newline, space, `#`, `-` and `:`
-abbrev pub newline : ℕ
-newline = 10
-
-abbrev pub space : ℕ
-space = 32
-
+-- the separators beside newline and space, by their bytes: `#`, `-` and `:`
 abbrev pub hash : ℕ
 hash = 35
 
