@@ -7,45 +7,27 @@ use query::Query;
 use search::Found;
 ghost use mathlib.Core.Path.{_≡_};
 ghost use Prim.Native.Nat.{_<_};
-ghost use lib.ListN.{length};
-ghost use Rattle.bridge.specs.Bytes.{numberAt, askedAt, arcAt as arcIs, arcsOf, queryOf};
+ghost use Rattle.bridge.specs.Bytes.{askedAt, arcAt as arcIs, arcsOf, queryOf};
 ghost use Rattle.bridge.specs.Answers.{BridgeMeasured, bridgeResult, bridgeList, bridgeLength, bridgeLooked};
 
 const QUERY_BYTES: usize = 148;
 
-fn wide(byte: u8) -> u32
-    ensures { λ r. ⌜ (r ≡ byte) × (r < 256) ⌝ }
-{
-    byte as u32
-}
-
-// The number at a place, counted in numbers.
-fn number(query: &[u8], place: usize) -> u32
-    requires { ⌜ (place < 37) × (length (now query) ≡ 148) ⌝ }
-    ensures { λ r. ⌜ r ≡ numberAt (now (query .entry)) place ⌝ }
-{
-    let at = 4 * place;
-    let low = wide(query[at]) + 256 * wide(query[at + 1]);
-    let high = wide(query[at + 2]) + 256 * wide(query[at + 3]);
-    low + 65536 * high
-}
-
 fn asked(query: &[u8], place: usize) -> Asked
-    requires { ⌜ (place < 36) × (length (now query) ≡ 148) ⌝ }
+    requires { ⌜ place < 36 ⌝ }
     ensures { λ r. ⌜ r ≡ askedAt (now (query .entry)) place ⌝ }
 {
-    let given = number(query, place) != 0;
-    let value = number(query, place + 1);
+    let given = search::entry_at(query, place) != 0;
+    let value = search::entry_at(query, place + 1);
     Asked { given, value }
 }
 
 fn arc(query: &[u8], place: usize) -> Arc
-    requires { ⌜ (place < 35) × (length (now query) ≡ 148) ⌝ }
+    requires { ⌜ place < 35 ⌝ }
     ensures { λ r. ⌜ r ≡ arcIs (now (query .entry)) place ⌝ }
 {
-    let given = number(query, place) != 0;
-    let start = number(query, place + 1);
-    let width = number(query, place + 2);
+    let given = search::entry_at(query, place) != 0;
+    let start = search::entry_at(query, place + 1);
+    let width = search::entry_at(query, place + 2);
     Arc {
         given,
         start,
@@ -54,7 +36,6 @@ fn arc(query: &[u8], place: usize) -> Arc
 }
 
 fn arcs(query: &[u8]) -> [Arc; 9]
-    requires { ⌜ length (now query) ≡ 148 ⌝ }
     ensures { λ r. ⌜ r ≡ arcsOf (now (query .entry)) ⌝ }
 {
     [
@@ -71,11 +52,10 @@ fn arcs(query: &[u8]) -> [Arc; 9]
 }
 
 fn query_of(query: &[u8]) -> Query
-    requires { ⌜ length (now query) ≡ 148 ⌝ }
     ensures { λ r. ⌜ r ≡ queryOf (now (query .entry)) ⌝ }
 {
-    let first = number(query, 0);
-    let last = number(query, 1);
+    let first = search::entry_at(query, 0);
+    let last = search::entry_at(query, 1);
     let weekday = asked(query, 2);
     let tithi = asked(query, 4);
     let nakshatra = asked(query, 6);

@@ -78,21 +78,6 @@ fn print(output: Output, buffer: &mut [u8], line: Line) -> Output
     }
 }
 
-fn wide(b: u8) -> u32
-    ensures { λ r. ⌜ r < 256 ⌝ }
-{
-    b as u32
-}
-
-// The day whose entry begins at a place of the list, low byte first.
-fn day_at(list: &[u8], at: usize) -> u32
-    requires { ⌜ at + 4 ≤ length (now list) ⌝ }
-{
-    let low = wide(list[at]) + 256 * wide(list[at + 1]);
-    let high = wide(list[at + 2]) + 256 * wide(list[at + 3]);
-    low + 65536 * high
-}
-
 // Whether all was written.
 fn print_days(found: Found, list: &[u8], buffer: &mut [u8]) -> bool
     requires { ⌜ (4 * found .length ≤ length (now list)) × (128 ≤ length (now buffer)) ⌝ }
@@ -109,7 +94,7 @@ fn print_days(found: Found, list: &[u8], buffer: &mut [u8]) -> bool
     let count = found.length as usize;
     let mut i = 0;
     while i < count {
-        let day = day_at(list, 4 * i);
+        let day = search::entry_at(list, i);
         output = print(output, buffer, catalogue::day_line(day));
         i += 1;
     }

@@ -1,12 +1,12 @@
 -- The entries of a list of days: four bytes each, and writing one more entry behind those written; by the lengths of the parts.
 -- Assumes nothing.
-use Prim.Native.Nat.{ℕ, zero, suc, _+_, _*_, _≤_}
+use Prim.Native.Nat.{ℕ, zero, suc, _+_, _*_, _/_, _%_, _≤_, _<_}
 use mathlib.Core.Path.{_≡_, refl, ap, ap₂, sym, _∙_}
 use mathlib.Core.List.{List, [], _∷_, _++_, append-assoc, append-nil}
 use native.Mathlib.Omega.{arith}
-use lib.ListN.{length, take, drop, set, length-append}
+use lib.ListN.{length, getD, take, drop, set, length-append}
 use lib.Seq.{take-at, drop-at, drop-drop}
-use Rattle.search.specs.Search.{entry, entries, withEntry, withEntries}
+use Rattle.search.specs.Search.{entry, entries, withEntry, withEntries, numberAt}
 
 pub entry-length : (d : ℕ) → length (entry d) ≡ 4
 unfolding entry
@@ -64,3 +64,29 @@ pub no-entries : (ds l : List ℕ) → length ds ≡ 0 → l ≡ withEntries ds 
 unfolding entries
 no-entries [] l e = refl
 no-entries (d ∷ ds) l e = absurd (omega arith)
+
+-- what was written is read back
+four-bytes : (d : ℕ) → d < 4294967296 → d % 256 + 256 * (d / 256 % 256) + 65536 * (d / 65536 % 256) + 16777216 * (d / 16777216 % 256) ≡ d
+four-bytes d s =
+    let a : d / 65536 ≡ d / 256 / 256 = omega arith in
+    let b : d / 16777216 ≡ d / 65536 / 256 = omega arith in
+    let x : d / 256 ≡ 256 * (d / 65536) + d / 256 % 256 = omega (arith, a) in
+    let y : d / 65536 ≡ 256 * (d / 16777216) + d / 65536 % 256 = omega (arith, b) in
+    let z : d / 16777216 % 256 ≡ d / 16777216 = omega arith in
+    omega (arith, x, y, z)
+
+later : (d : ℕ) (l : List ℕ) (k : ℕ) → numberAt (entry d ++ l) (suc k) ≡ numberAt l k
+unfolding numberAt entry
+later d l k =
+    let z : 4 * suc k ≡ suc (suc (suc (suc (4 * k)))) = omega arith in
+    let o : 4 * suc k + 1 ≡ suc (suc (suc (suc (4 * k + 1)))) = omega arith in
+    let t : 4 * suc k + 2 ≡ suc (suc (suc (suc (4 * k + 2)))) = omega arith in
+    let h : 4 * suc k + 3 ≡ suc (suc (suc (suc (4 * k + 3)))) = omega arith in
+    rw (o, t, h, z)
+
+pub read-entry : (ds l : List ℕ) (k : ℕ) → k < length ds → getD ds k 0 < 4294967296 → numberAt (entries ds ++ l) k ≡ getD ds k 0
+unfolding entries
+read-entry [] l k h s = absurd (omega arith)
+read-entry (d ∷ ds) l zero h s = unfold numberAt entry in four-bytes d s
+read-entry (d ∷ ds) l (suc k) h s =
+    ap (λ (t : List ℕ). numberAt t (suc k)) (append-assoc (entry d) (entries ds) l) ∙ later d (entries ds ++ l) k ∙ read-entry ds l k (omega arith) s

@@ -1,5 +1,5 @@
 -- The laws beside the search: the matching days and the visited days ascend strictly, so each stands once; a day is listed if and only if it is in the span
--- and meets the conditions; every matching day is visited. By induction on the days.
+-- and meets the conditions; what is written to a list is read back; every matching day is visited. By induction on the days.
 -- Assumes nothing.
 use Prim.Native.Nat.{ℕ, zero, suc, _+_, _-_, _≤_, _<_}
 use mathlib.Core.Path.{_≡_, refl, ap, sym, subst, _∙_}
@@ -8,12 +8,16 @@ use mathlib.Core.List.{List, [], _∷_}
 use mathlib.Core.Logic.{_⊎_, inl, inr}
 use native.Mathlib.Omega.{arith}
 use native.Mathlib.Decide.{decLe}
+use lib.ListN.{length, getD, length-append, length-drop}
+use borrow.Author.Tests.{lt-ltb}
 use Rattle.query.specs.declared.Query.{Query}
 use Rattle.query.specs.Conditions.{arcInRange}
-use Rattle.query.specs.Query.{matches, nextDay}
+use Rattle.query.specs.Query.{matches, nextDay, refusalOf}
 use Rattle.search.specs.Days.{filtered, daysFrom, spanLength, span, matchingDays, visitedFrom, visitedDays}
-use Rattle.query.proofs.Accepted.{sunArc}
+use Rattle.search.specs.Search.{entries, withEntries, capacity, entryAt}
+use Rattle.query.proofs.Accepted.{sunArc, accepted-by}
 use Rattle.search.proofs.Arc.{next-later}
+use Rattle.search.proofs.Entries.{entries-length, read-entry}
 use Rattle.search.proofs.Skip.{matching-visited, visit-end, visit-more}
 
 -- each element is at least a, and below those behind it
@@ -109,6 +113,26 @@ listed-only q x h =
 pub listed-all : (q : Query) (x : ℕ) → Listed q x → Has x (matchingDays q)
 unfolding matchingDays
 listed-all q x l = has-filtered (matches q) x (l .meets-all) (span q) (in-days x (q .first) (spanLength q) (l .from-first) (omega (arith, l .from-first, l .to-last)))
+
+has-at : (k : ℕ) (xs : List ℕ) → k < length xs → Has (getD xs k 0) xs
+unfolding Has
+has-at k [] h = absurd (omega arith)
+has-at zero (x ∷ xs) h = inl refl
+has-at (suc k) (x ∷ xs) h = inr (has-at k xs (omega arith))
+
+-- an entry of the list that was written is the day at that place of the matching days
+pub listed-read :
+    (q : Query) (l : List ℕ) (k : ℕ) →
+    refusalOf q ≡ 0 →
+    length (matchingDays q) ≤ capacity l →
+    k < length (matchingDays q) →
+    entryAt (withEntries (matchingDays q) l) k ≡ getD (matchingDays q) k 0
+unfolding entryAt
+listed-read q l k e room h =
+    let n = listed-only q (getD (matchingDays q) k 0) (has-at k (matchingDays q) h) in
+    let whole : length (withEntries (matchingDays q) l) ≡ length l = simp (length-append, length-drop) (omega (arith, entries-length (matchingDays q))) in
+    rw (lt-ltb k (capacity (withEntries (matchingDays q) l)) (omega (arith, whole)))
+    (read-entry (matchingDays q) _ k h (omega (arith, n .to-last, accepted-by q e .last)))
 
 module _ (q : Query) (r : arcInRange (sunArc q) ≡ true) where
   visits-from : (n d : ℕ) → Ascending d (visitedFrom q n d)

@@ -4,8 +4,8 @@ use mathlib.Core.Path.{_≡_}
 use mathlib.Core.Bool.{true, cond}
 use mathlib.Core.List.{List, [], _∷_, _++_}
 use Prim.Native.Nat.{ℕ, _+_, _*_, _/_, _%_, _≤_}
-use lib.Dec.{leb, eqb}
-use lib.ListN.{length, take, drop}
+use lib.Dec.{leb, ltb, eqb}
+use lib.ListN.{length, getD, take, drop}
 use Rattle.days.specs.Refusals.{accepted, listTooShort}
 use Rattle.query.specs.declared.Query.{Query}
 use Rattle.query.specs.Conditions.{arcAt}
@@ -32,6 +32,15 @@ withEntries days list = entries days ++ drop (4 * length days) list
 -- how many entries a list has; a tail under four bytes is none
 abbrev pub capacity : List ℕ → ℕ
 capacity list = length list / 4
+
+-- the number that the four bytes from 4 k on hold
+unfoldable pub numberAt : List ℕ → ℕ → ℕ
+numberAt bytes k =
+    getD bytes (4 * k) 0 + 256 * getD bytes (4 * k + 1) 0 + 65536 * getD bytes (4 * k + 2) 0 + 16777216 * getD bytes (4 * k + 3) 0
+
+-- the number that entry k of a list holds, or 0 where the list has no such entry
+unfoldable pub entryAt : List ℕ → ℕ → ℕ
+entryAt list k = cond (ltb k (capacity list)) (numberAt list k) 0
 
 -- 7 where a query that is not refused has more matching days than the list has entries
 unfoldable pub resultOf : Query → ℕ → ℕ

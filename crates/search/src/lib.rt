@@ -4,11 +4,11 @@ use query::Examined;
 use query::Query;
 ghost use mathlib.Core.Path.{_≡_};
 ghost use mathlib.Core.Bool.{true, cond};
-ghost use Prim.Native.Nat.{_+_, _*_, _≤_};
+ghost use Prim.Native.Nat.{_+_, _*_, _≤_, _<_};
 ghost use lib.ListN.{length};
 ghost use Rattle.query.specs.Query.{refusalOf, examinedOf};
 ghost use Rattle.search.specs.Days.{until, matchingDays, VisitAt, Tallied};
-ghost use Rattle.search.specs.Search.{withEntry, withEntries, Measured, Searched};
+ghost use Rattle.search.specs.Search.{withEntry, withEntries, entryAt, Measured, Searched};
 
 // The bytes of an entry of the list.
 const ENTRY: usize = 4;
@@ -171,4 +171,23 @@ pub fn search(query: Query, list: &mut [u8]) -> Found
         return told(refusal::NONE, tally);
     }
     write(query, tally, list)
+}
+
+fn wide(byte: u8) -> u32
+    ensures { λ r. ⌜ (r ≡ byte) × (r < 256) ⌝ }
+{
+    byte as u32
+}
+
+// The number that an entry of a list holds, or 0 where the list has no such entry.
+pub fn entry_at(list: &[u8], index: usize) -> u32
+    ensures { λ r. ⌜ r ≡ entryAt (now (list .entry)) index ⌝ }
+{
+    if list.len() / ENTRY <= index {
+        return 0;
+    }
+    let at = ENTRY * index;
+    let low = wide(list[at]) + 256 * wide(list[at + 1]);
+    let high = wide(list[at + 2]) + 256 * wide(list[at + 3]);
+    low + 65536 * high
 }

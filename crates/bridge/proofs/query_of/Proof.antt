@@ -4,11 +4,11 @@ use Rattle.bridge.specs.Bytes.{queryOf}
 use Rattle.bridge.proofs.query_of.Statement.{statement}
 use Rattle.bridge.proofs.query_of.Tie as tie
 
-number-requires : tie.Need-number-requires
-number-requires c κs = search needs
+entry-at-requires : tie.Need-entry-at-requires
+entry-at-requires c κs = search needs
 
-number-requires-2 : tie.Need-number-requires-2
-number-requires-2 c κs = search needs
+entry-at-requires-2 : tie.Need-entry-at-requires-2
+entry-at-requires-2 c κs = search needs
 
 asked-requires : tie.Need-asked-requires
 asked-requires c κs = search needs
@@ -33,8 +33,8 @@ pub query-of-spec : {M : Type 1} → statement M
 query-of-spec =
     tie.close
     (tie.spec
-    number-requires
-    number-requires-2
+    entry-at-requires
+    entry-at-requires-2
     asked-requires
     asked-requires-2
     asked-requires-3

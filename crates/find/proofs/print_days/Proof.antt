@@ -24,11 +24,8 @@ cast-count c = search needs
 loop-holds : tie.Need-loop-holds Inv-loop μ-loop
 loop-holds c = search needs
 
-mul-day-at : tie.Need-mul-day-at Inv-loop μ-loop
-mul-day-at c = search needs
-
-day-at-requires : tie.Need-day-at-requires Inv-loop μ-loop
-day-at-requires c κs = search needs
+entry-at-requires : tie.Need-entry-at-requires Inv-loop μ-loop
+entry-at-requires c κs = search needs
 
 day-line-requires : tie.Need-day-line-requires Inv-loop μ-loop
 day-line-requires c κs = search needs
@@ -64,8 +61,7 @@ print-days-spec =
     print-requires
     cast-count
     loop-holds
-    mul-day-at
-    day-at-requires
+    entry-at-requires
     day-line-requires
     print-requires-2
     add-i

@@ -1,9 +1,14 @@
--- `number` meets its contract: two halves of two bytes each are the sum of four bytes by their weights.
-use borrow.Author.Needs.{needs}
+-- `entry_at` meets its contract: two halves of two bytes each are the sum of four bytes by their weights.
 use native.Mathlib.Omega.{arith}
-use Rattle.bridge.specs.Bytes.{numberAt}
-use Rattle.bridge.proofs.number.Statement.{statement}
-use Rattle.bridge.proofs.number.Tie as tie
+use borrow.Author.Tests.{lt-ltb, le-ltb}
+use Rattle.search.specs.Search.{numberAt, entryAt}
+use borrow.Author.Needs.{needs}
+use Rattle.search.proofs.entry_at.Statement.{statement}
+use Rattle.search.proofs.entry_at.Tie as tie
+
+returns : tie.Need-returns
+unfolding entryAt
+returns c = rw (le-ltb _ _ (c .if1 .taken))
 
 mul-at : tie.Need-mul-at
 mul-at c = search needs
@@ -59,14 +64,15 @@ mul-result c = search needs
 add-result : tie.Need-add-result
 add-result c = search needs
 
-returns : tie.Need-returns
-unfolding numberAt
-returns c = omega arith
+returns-2 : tie.Need-returns-2
+unfolding entryAt numberAt
+returns-2 c = rw (lt-ltb _ _ (c .before .before .before .before .before .before .before .before .if1 .left)) (omega arith)
 
-pub number-spec : {M : Type 1} → statement M
-number-spec =
+pub entry-at-spec : {M : Type 1} → statement M
+entry-at-spec =
     tie.close
     (tie.spec
+    returns
     mul-at
     shared-slice-read-wide
     wide-requires
@@ -85,4 +91,4 @@ number-spec =
     add-high
     mul-result
     add-result
-    returns)
+    returns-2)
