@@ -1,10 +1,10 @@
 -- The laws beside the search: the matching days and the visited days ascend strictly, so each stands once; a day is listed if and only if it is in the span
--- and meets the conditions; what is written to a list is read back; every matching day is visited. By induction on the days.
+-- and meets the conditions; what is written to a list is read back; every matching day is visited; a second pass visits the first days that the first one visits. By induction on the days.
 -- Assumes nothing.
 use Prim.Native.Nat.{ℕ, zero, suc, _+_, _-_, _≤_, _<_}
 use mathlib.Core.Path.{_≡_, refl, ap, sym, subst, _∙_}
 use mathlib.Core.Bool.{Bool, true, false, cond}
-use mathlib.Core.List.{List, [], _∷_}
+use mathlib.Core.List.{List, [], _∷_, _++_}
 use mathlib.Core.Logic.{_⊎_, inl, inr}
 use native.Mathlib.Omega.{arith}
 use native.Mathlib.Decide.{decLe}
@@ -12,13 +12,13 @@ use lib.ListN.{length, getD, length-append, length-drop}
 use borrow.Author.Tests.{lt-ltb}
 use Rattle.query.specs.declared.Query.{Query}
 use Rattle.query.specs.Conditions.{arcInRange}
-use Rattle.query.specs.Query.{matches, nextDay, refusalOf}
-use Rattle.search.specs.Days.{filtered, daysFrom, spanLength, span, matchingDays, visitedFrom, visitedDays}
+use Rattle.query.specs.Query.{matches, sunInArc, nextDay, refusalOf}
+use Rattle.search.specs.Days.{filtered, daysFrom, spanLength, span, until, matchingDays, visitedFrom, visitedDays}
 use Rattle.search.specs.Search.{entries, withEntries, capacity, entryAt}
 use Rattle.query.proofs.Accepted.{sunArc, accepted-by}
 use Rattle.search.proofs.Arc.{next-later}
 use Rattle.search.proofs.Entries.{entries-length, read-entry}
-use Rattle.search.proofs.Skip.{matching-visited, visit-end, visit-more}
+use Rattle.search.proofs.Skip.{matching-visited, visit-end, visit-more, bound}
 
 -- each element is at least a, and below those behind it
 pub Ascending : ℕ → List ℕ → Type 0
@@ -134,6 +134,11 @@ listed-read q l k e room h =
     rw (lt-ltb k (capacity (withEntries (matchingDays q) l)) (omega (arith, whole)))
     (read-entry (matchingDays q) _ k h (omega (arith, n .to-last, accepted-by q e .last)))
 
+-- a list begins with the elements of another
+pub record Front (xs ys : List ℕ) : Type 0 where
+  pub later : List ℕ
+  pub whole : ys ≡ xs ++ later
+
 module _ (q : Query) (r : arcInRange (sunArc q) ≡ true) where
   visits-from : (n d : ℕ) → Ascending d (visitedFrom q n d)
   visits-from zero d = unfold Ascending visitedFrom in tt
@@ -151,3 +156,30 @@ module _ (q : Query) (r : arcInRange (sunArc q) ≡ true) where
   -- every matching day is visited
   pub matching-are-visited : (x : ℕ) → Has x (matchingDays q) → Has x (visitedDays q)
   matching-are-visited x h = filtered-has (matches q) x (visitedDays q) (rw (matching-visited q r) h)
+
+  -- where the span is cut off behind day c, as for the second pass, the days visited are the first of those that were
+  module _ (c : ℕ) (low : c ≤ q .last) where
+    same-next : (d : ℕ) → nextDay (until q c) d ≡ nextDay q d
+    same-next d = unfold nextDay sunInArc in refl
+
+    front : (n d : ℕ) → Front (visitedFrom (until q c) n d) (visitedFrom q n d)
+    front zero d = record { later = []; whole = unfold visitedFrom in refl }
+    front (suc n) d = go (decLe d c) (front n (nextDay q d))
+      where
+        go : Dec (d ≤ c) → Front (visitedFrom (until q c) n (nextDay q d)) (visitedFrom q n (nextDay q d)) → Front (visitedFrom (until q c) (suc n) d) (visitedFrom q (suc n) d)
+        go (yes h) f =
+            let more : visitedFrom (until q c) (suc n) d ≡ d ∷ visitedFrom (until q c) n (nextDay q d) =
+            visit-more (until q c) r n d h ∙ ap (λ (x : ℕ). d ∷ visitedFrom (until q c) n x) (same-next d) in
+            record { later = f .later; whole = visit-more q r n d (omega arith) ∙ ap (λ (t : List ℕ). d ∷ t) (f .whole) ∙ ap (λ (t : List ℕ). t ++ f .later) (sym more) }
+        go (no h) f =
+            record {
+              later = visitedFrom q (suc n) d;
+              whole = ap (λ (t : List ℕ). t ++ visitedFrom q (suc n) d) (sym (visit-end (until q c) r (suc n) d (omega arith)));
+            }
+
+    pub until-visits : Front (visitedDays (until q c)) (visitedDays q)
+    unfolding visitedDays
+    until-visits =
+        let f = front (spanLength q) (q .first) in
+        let same = bound (until q c) r (spanLength q) (c + 1 - q .first) (q .first) (omega arith) (omega arith) in
+        record { later = f .later; whole = f .whole ∙ ap (λ (t : List ℕ). t ++ f .later) same }

@@ -46,7 +46,7 @@ module _ (q : Query) (r : arcInRange (sunArc q) ≡ true) where
   visit-more n d h = rw (le-leb d (q .last) h, visitedFrom)
 
   -- a larger bound than the days left makes no difference
-  bound : (n m d : ℕ) → q .last + 1 - d ≤ n → q .last + 1 - d ≤ m → visitedFrom q n d ≡ visitedFrom q m d
+  pub bound : (n m d : ℕ) → q .last + 1 - d ≤ n → q .last + 1 - d ≤ m → visitedFrom q n d ≡ visitedFrom q m d
   bound zero m d h k = visit-end zero d (omega arith) ∙ sym (visit-end m d (omega arith))
   bound (suc n) zero d h k = visit-end (suc n) d (omega arith) ∙ sym (visit-end zero d (omega arith))
   bound (suc n) (suc m) d h k =
