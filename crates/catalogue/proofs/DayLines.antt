@@ -1,5 +1,5 @@
 -- The line of a day, put together from what is found of the day, and that it fits. Assumes nothing.
-use mathlib.Core.Path.{_≡_, ap, _∙_}
+use mathlib.Core.Path.{_≡_, _∙_}
 use mathlib.Core.List.{List, [], _∷_, _++_, append-assoc}
 use Prim.Native.Nat.{ℕ, zero, suc, _≤_, _<_}
 use native.Mathlib.Omega.{arith}
@@ -11,7 +11,7 @@ use Rattle.civil.specs.Answers.{dateOfDay}
 use Rattle.days.specs.declared.DayAnswer.{DayAnswer}
 use Rattle.days.specs.declared.NumberAnswer.{NumberAnswer}
 use Rattle.days.specs.Days.{lastDay, pairAt, weekdayOn, weekdayAt, weekdayOf, dayOf}
-use Rattle.days.proofs.Laws.{that-day, no-such-day, that-weekday, given}
+use Rattle.days.proofs.Laws.{that-day, no-such-day, that-weekday, given-number}
 use Rattle.panchanga.specs.declared.Panchanga.{Panchanga}
 use Rattle.panchanga.specs.OnDays.{panchangaOf}
 use Rattle.sheet.specs.Sheets.{spaced}
@@ -58,7 +58,7 @@ pub day-made :
     together n (dateBytes (found .date)) name (elementBytes p) ≡ dayLine n
 day-made n answer found weekday name p ea r ef ew en ep =
     let k = that-day n answer ea r in
-    let w : weekday .number ≡ weekdayOn n = ap (λ (a : NumberAnswer). a .number) (ew ∙ given weekdayAt _ (k .range)) ∙ that-weekday k in
+    let w : weekday .number ≡ weekdayOn n = given-number weekdayAt _ ew (k .range) ∙ that-weekday k in
     rw (ep, k .pair, ef, en, w) (of-pair n (k .number))
 
 pub name-short : (n : ℕ) → length (nameAt weekdayNames n) ≤ 9

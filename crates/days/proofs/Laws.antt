@@ -9,6 +9,7 @@ use lib.Dec.{ltb}
 use borrow.Author.Tests.{ltb-true, lt-ltb, le-leb, lt-leb}
 use Rattle.days.specs.declared.Day.{Day}
 use Rattle.days.specs.declared.DayAnswer.{DayAnswer}
+use Rattle.days.specs.declared.NumberAnswer.{NumberAnswer}
 use Rattle.days.specs.Refusals.{outOfRange}
 use Rattle.days.specs.Days.{cycleDays, cycles, lastDay, count, weekdayOn, weekdayAt, pairAt, theDay, noDay, theNumber, noNumber, inRange, onDay, dayOf, nextOf}
 
@@ -41,6 +42,9 @@ past-last n h = rw (lt-leb _ _ h)
 pub given : (f : Day → ℕ) (d : Day) → inRange d ≡ true → onDay f d ≡ theNumber (f d)
 unfolding onDay
 given f d e = rw e
+
+pub given-number : (f : Day → ℕ) (d : Day) {a : NumberAnswer} → a ≡ onDay f d → inRange d ≡ true → a .number ≡ f d
+given-number f d e r = ap (λ (a : NumberAnswer). a .number) (e ∙ given f d r)
 
 pub refused : (f : Day → ℕ) (d : Day) → inRange d ≡ false → onDay f d ≡ noNumber outOfRange
 unfolding onDay

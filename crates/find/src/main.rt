@@ -7,7 +7,7 @@ use page::PageRead;
 use query::Query;
 use search::Found;
 use text::Line;
-ghost use Prim.Native.Nat.{_+_, _*_, _≤_, _<_};
+ghost use Prim.Native.Nat.{_+_, _*_, _≤_};
 ghost use lib.ListN.{length};
 ghost use mathlib.Core.Path.{_≡_};
 ghost use Rattle.query.specs.Query.{refusalOf};

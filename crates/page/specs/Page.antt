@@ -8,7 +8,6 @@ use lib.ListN.{length, getD, set, replicate}
 use Rattle.days.specs.Days.{lastDay}
 use Rattle.days.specs.Refusals.{accepted, noSuchDate, outOfRange, badInput, lastBeforeFirst, badCondition}
 use Rattle.query.specs.declared.Asked.{Asked}
-use Rattle.query.specs.declared.Arc.{Arc}
 use Rattle.query.specs.declared.Query.{Query}
 use Rattle.query.specs.Conditions.{notAsked, noArc}
 use Rattle.query.specs.Query.{refusalOf}

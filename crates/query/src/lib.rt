@@ -7,8 +7,8 @@ ghost use mathlib.Core.Path.{_≡_};
 ghost use mathlib.Core.Bool.{true, false, _&&_};
 ghost use Prim.Native.Nat.{ℕ, _<_, _≤_};
 ghost use lib.Dec.{eqb};
-ghost use Rattle.days.specs.Days.{inRange, weekdayOn};
-ghost use Rattle.longitudes.specs.Longitudes.{difference, longitudeAt};
+ghost use Rattle.days.specs.Days.{lastDay, inRange, weekdayOn};
+ghost use Rattle.longitudes.specs.Longitudes.{longitudeAt};
 ghost use Rattle.longitudes.specs.Answers.{bodyNumber};
 ghost use Rattle.panchanga.specs.OnDays.{nakshatraAt};
 ghost use Rattle.query.specs.Conditions.{meets, within, askedInRange, arcInRange, arcsInRange, conditionsInRange, arcAt, arcsMet, elementsMet, AsksNoMore};
@@ -249,7 +249,7 @@ fn nakshatra_met(asked: Asked, day: Day) -> bool
 
 // Whether a day has the weekday: seven divides its number less the weekday. The compiler makes one product of that, where the weekday itself takes a division.
 fn has_weekday(number: u32, weekday: u32) -> bool
-    requires { ⌜ number ≤ 401599 ⌝ }
+    requires { ⌜ number ≤ lastDay ⌝ }
     ensures { λ r. ⌜ r ≡ eqb (weekdayOn number) weekday ⌝ }
 {
     if 6 < weekday {
@@ -259,7 +259,7 @@ fn has_weekday(number: u32, weekday: u32) -> bool
 }
 
 fn weekday_met(asked: Asked, number: u32) -> bool
-    requires { ⌜ number ≤ 401599 ⌝ }
+    requires { ⌜ number ≤ lastDay ⌝ }
     ensures { λ r. ⌜ r ≡ meets asked (weekdayOn number) ⌝ }
 {
     if asked.given {

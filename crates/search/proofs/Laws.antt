@@ -14,7 +14,7 @@ use Rattle.query.specs.declared.Query.{Query}
 use Rattle.query.specs.Conditions.{arcInRange}
 use Rattle.query.specs.Query.{matches, sunInArc, nextDay, refusalOf}
 use Rattle.search.specs.Days.{filtered, daysFrom, spanLength, span, until, matchingDays, visitedFrom, visitedDays}
-use Rattle.search.specs.Search.{entries, withEntries, capacity, entryAt}
+use Rattle.search.specs.Search.{withEntries, capacity, entryAt}
 use Rattle.query.proofs.Accepted.{sunArc, accepted-by}
 use Rattle.search.proofs.Arc.{next-later}
 use Rattle.search.proofs.Entries.{entries-length, read-entry}

@@ -33,7 +33,7 @@ withEntries days list = entries days ++ drop (4 * length days) list
 abbrev pub capacity : List ℕ → ℕ
 capacity list = length list / 4
 
--- the number that the four bytes from 4 k on hold
+-- the number that the four bytes from byte 4 k on hold, low byte first
 unfoldable pub numberAt : List ℕ → ℕ → ℕ
 numberAt bytes k =
     getD bytes (4 * k) 0 + 256 * getD bytes (4 * k + 1) 0 + 65536 * getD bytes (4 * k + 2) 0 + 16777216 * getD bytes (4 * k + 3) 0

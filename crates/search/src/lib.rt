@@ -6,6 +6,7 @@ ghost use mathlib.Core.Path.{_≡_};
 ghost use mathlib.Core.Bool.{true, cond};
 ghost use Prim.Native.Nat.{_+_, _*_, _≤_, _<_};
 ghost use lib.ListN.{length};
+ghost use Rattle.days.specs.Days.{lastDay};
 ghost use Rattle.query.specs.Query.{refusalOf, examinedOf};
 ghost use Rattle.search.specs.Days.{until, matchingDays, VisitAt, Tallied};
 ghost use Rattle.search.specs.Search.{withEntry, withEntries, entryAt, Measured, Searched};
@@ -62,7 +63,7 @@ fn visit(query: Query, place: Place) -> Examined
 
 // The place after a visit: the day handed back, with one more examined before it.
 fn onward(place: Place, seen: Examined) -> Place
-    requires { ⌜ place .examined ≤ 401599 ⌝ }
+    requires { ⌜ place .examined ≤ lastDay ⌝ }
     ensures { λ r. ⌜ r ≡ record { day = seen .next; examined = place .examined + 1 } ⌝ }
 {
     Place {

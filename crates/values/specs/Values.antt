@@ -5,7 +5,6 @@ use mathlib.Core.List.{List}
 use Prim.Native.Nat.{ℕ, _+_, _*_}
 use lib.Dec.{eqb, ltb}
 use lib.ListN.{length}
-use Rattle.civil.specs.declared.Date.{Date}
 use Rattle.civil.specs.Answers.{dayOfDate}
 use Rattle.days.specs.declared.NumberAnswer.{NumberAnswer}
 use Rattle.days.specs.Refusals.{accepted}

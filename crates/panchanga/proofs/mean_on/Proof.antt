@@ -1,16 +1,15 @@
 -- `mean_on` meets its contract: a day in range has its longitude, below a circle.
 use borrow.Author.Needs.{needs}
-use mathlib.Core.Path.{_≡_, ap, _∙_}
-use Rattle.days.specs.declared.NumberAnswer.{NumberAnswer}
+use mathlib.Core.Path.{_≡_}
 use Rattle.longitudes.specs.Longitudes.{longitudeAt}
 use Rattle.longitudes.specs.Answers.{bodyNumber}
-use Rattle.days.proofs.Laws.{given}
+use Rattle.days.proofs.Laws.{given-number}
 use Rattle.longitudes.proofs.Table.{longitude-small}
 use Rattle.panchanga.proofs.mean_on.Statement.{statement}
 use Rattle.panchanga.proofs.mean_on.Tie as tie
 
 number-is : (c : tie.After-mean-longitude) → c .mean-longitude .result .number ≡ longitudeAt (bodyNumber (c .before .args .body)) (c .before .args .day)
-number-is c = ap (λ (a : NumberAnswer). a .number) (c .mean-longitude .ensures ∙ given _ _ (c .before .pre))
+number-is c = given-number _ _ (c .mean-longitude .ensures) (c .before .pre)
 
 mean-longitude-requires : tie.Need-mean-longitude-requires
 mean-longitude-requires c κs = search needs

@@ -2,10 +2,9 @@
 use borrow.Author.Needs.{needs}
 use borrow.Author.Tests.{not-true, not-false}
 use mathlib.Core.Bool.{true}
-use mathlib.Core.Path.{_≡_, sym, ap, _∙_}
+use mathlib.Core.Path.{_≡_, sym, _∙_}
 use native.Mathlib.Omega.{arith}
-use Rattle.days.specs.declared.NumberAnswer.{NumberAnswer}
-use Rattle.days.proofs.Laws.{ThatDay, that-day, no-such-day, given}
+use Rattle.days.proofs.Laws.{ThatDay, that-day, no-such-day, given-number}
 use Rattle.longitudes.specs.Longitudes.{difference, longitudeAt}
 use Rattle.longitudes.proofs.Subtraction.{is-small}
 use Rattle.query.specs.Conditions.{arcAt, within}
@@ -86,7 +85,7 @@ difference-requires : tie.Need-difference-requires
 difference-requires c κs = search needs
 
 sun : (c : tie.After-mean-longitude) → c .mean-longitude .result .number ≡ longitudeAt 0 (c .before .before .before .before .before .before .before .before .from-number .result .day)
-sun c = ap (λ (n : NumberAnswer). n .number) (c .mean-longitude .ensures ∙ given (longitudeAt 0) _ (the-day (c .before .before .before .before .before .before) .range))
+sun c = given-number (longitudeAt 0) _ (c .mean-longitude .ensures) (the-day (c .before .before .before .before .before .before) .range)
 
 past : (c : tie.After-difference) → c .difference .result ≡ difference (longitudeAt 0 (c .before .before .before .before .before .before .before .before .before .from-number .result .day)) (arcAt (c .before .before .before .before .before .before .before .before .before .before .args .t1 .arcs) 0 .start)
 past c = c .difference .ensures ∙ rw (sun (c .before))

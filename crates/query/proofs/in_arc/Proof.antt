@@ -2,8 +2,7 @@
 use borrow.Author.Needs.{needs}
 use mathlib.Core.Path.{ap, _∙_}
 use Prim.Native.Nat.{ℕ}
-use Rattle.days.specs.declared.NumberAnswer.{NumberAnswer}
-use Rattle.days.proofs.Laws.{given}
+use Rattle.days.proofs.Laws.{given-number}
 use Rattle.longitudes.specs.Longitudes.{difference, longitudeAt}
 use Rattle.longitudes.specs.Answers.{bodyNumber}
 use Rattle.query.specs.Conditions.{within}
@@ -20,7 +19,7 @@ returns : tie.Need-returns
 unfolding within
 returns c =
     let a = c .before .before .before .before .args in
-    let sun = ap (λ (n : NumberAnswer). n .number) (c .before .before .mean-longitude .ensures ∙ given (longitudeAt (bodyNumber (a .body))) (a .day) (c .before .before .before .before .pre)) in
+    let sun = given-number (longitudeAt (bodyNumber (a .body))) (a .day) (c .before .before .mean-longitude .ensures) (c .before .before .before .before .pre) in
     rw (c .before .before .before .if1 .taken, c .before .difference .ensures ∙ ap (λ (x : ℕ). difference x (a .arc .start)) sun)
 
 returns-2 : tie.Need-returns-2

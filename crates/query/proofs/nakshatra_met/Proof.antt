@@ -1,8 +1,6 @@
 -- `nakshatra_met` meets its contract: the nakshatra of a day in range is not refused.
 use borrow.Author.Needs.{needs}
-use mathlib.Core.Path.{ap, _∙_}
-use Rattle.days.specs.declared.NumberAnswer.{NumberAnswer}
-use Rattle.days.proofs.Laws.{given}
+use Rattle.days.proofs.Laws.{given-number}
 use Rattle.panchanga.specs.OnDays.{nakshatraAt}
 use Rattle.query.specs.Conditions.{meets}
 use Rattle.query.proofs.nakshatra_met.Statement.{statement}
@@ -14,8 +12,7 @@ nakshatra-requires c κs = search needs
 returns : tie.Need-returns
 unfolding meets
 returns c =
-    let found = ap (λ (n : NumberAnswer). n .number) (c .before .before .nakshatra .ensures ∙ given nakshatraAt (c .before .before .before .before .args .day) (c .before .before .before .before .pre)) in
-    rw (c .before .before .before .if1 .taken, found)
+    rw (c .before .before .before .if1 .taken, given-number nakshatraAt _ (c .before .before .nakshatra .ensures) (c .before .before .before .before .pre))
 
 returns-2 : tie.Need-returns-2
 unfolding meets

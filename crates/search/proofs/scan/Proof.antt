@@ -3,6 +3,7 @@ use borrow.Author.Needs.{needs}
 use Prim.Native.Nat.{_+_, _-_, _≤_}
 use mathlib.Core.Path.{refl}
 use native.Mathlib.Omega.{arith}
+use Rattle.days.specs.Days.{lastDay}
 use Rattle.search.proofs.Passes.{Visit, visit, Scanning, scanning-start, scanning-length, scanning-visit, scanning-room, scanning-in, scanning-out, scanning-end}
 use Rattle.search.proofs.scan.Statement.{statement}
 use Rattle.search.proofs.scan.Tie as tie
@@ -29,7 +30,7 @@ onward-requires c κs = omega (arith, seen c, c .before .before .before .loop .i
 cast-put-if : tie.Need-cast-put-if Inv-loop μ-loop
 cast-put-if c = search needs
 
-few : (c : tie.After-visit Inv-loop μ-loop) → c .before .before .before .loop .length ≤ 401599
+few : (c : tie.After-visit Inv-loop μ-loop) → c .before .before .before .loop .length ≤ lastDay
 few c = omega (arith, seen c, c .before .before .before .loop .inv .counting)
 
 mul-put-if : tie.Need-mul-put-if Inv-loop μ-loop

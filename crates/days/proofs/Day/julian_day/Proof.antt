@@ -4,9 +4,8 @@ use mathlib.Core.Bool.{true}
 use mathlib.Core.Path.{_≡_, sym, ap, _∙_}
 use Prim.Native.Nat.{ℕ, _+_}
 use native.Mathlib.Omega.{arith}
-use Rattle.days.specs.declared.NumberAnswer.{NumberAnswer}
 use Rattle.days.specs.Days.{inRange, count, theNumber, epochJulianDay}
-use Rattle.days.proofs.Laws.{in-range, given, refused}
+use Rattle.days.proofs.Laws.{in-range, given, given-number, refused}
 use Rattle.days.proofs.Day.julian_day.Statement.{statement}
 use Rattle.days.proofs.Day.julian_day.Tie as tie
 
@@ -20,7 +19,7 @@ number-requires : tie.Need-number-requires
 number-requires c κs = search needs
 
 counted : (c : tie.After-number) → c .number .result .number ≡ count (c .before .before .before .args .self)
-counted c = ap (λ (a : NumberAnswer). a .number) (c .number .ensures ∙ given count _ (ok (c .before)))
+counted c = given-number count _ (c .number .ensures) (ok (c .before))
 
 add-number : tie.Need-add-number
 add-number c = omega (arith, counted (c .before), in-range (c .before .before .before .before .args .self) (ok (c .before .before)))

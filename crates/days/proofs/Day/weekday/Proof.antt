@@ -3,9 +3,8 @@ use borrow.Author.Needs.{needs}
 use mathlib.Core.Bool.{true}
 use mathlib.Core.Path.{_≡_, sym, ap, _∙_}
 use Prim.Native.Nat.{ℕ}
-use Rattle.days.specs.declared.NumberAnswer.{NumberAnswer}
 use Rattle.days.specs.Days.{inRange, count, theNumber, weekdayOn}
-use Rattle.days.proofs.Laws.{given, refused}
+use Rattle.days.proofs.Laws.{given, given-number, refused}
 use Rattle.days.proofs.Day.weekday.Statement.{statement}
 use Rattle.days.proofs.Day.weekday.Tie as tie
 
@@ -19,7 +18,7 @@ number-requires : tie.Need-number-requires
 number-requires c κs = search needs
 
 counted : (c : tie.After-number) → c .number .result .number ≡ count (c .before .before .before .args .self)
-counted c = ap (λ (a : NumberAnswer). a .number) (c .number .ensures ∙ given count _ (ok (c .before)))
+counted c = given-number count _ (c .number .ensures) (ok (c .before))
 
 returns : tie.Need-returns
 returns c = ap (λ (n : ℕ). theNumber (weekdayOn n)) (counted (c .before)) ∙ sym (given _ _ (ok (c .before .before)))
