@@ -2,7 +2,7 @@
 -- Assumes nothing.
 use Prim.Native.Nat.{ℕ, _+_, _-_, _≤_, _<_}
 use mathlib.Core.Path.{_≡_, refl, sym, _∙_}
-use mathlib.Core.Bool.{true}
+use mathlib.Core.Bool.{Bool, true, false, cond, false≢true}
 use mathlib.Core.List.{List}
 use native.Mathlib.Omega.{arith}
 use lib.Dec.{ltb}
@@ -17,6 +17,11 @@ use Rattle.search.specs.Search.{withEntries, capacity, resultOf, listAft
 use Rattle.query.proofs.Accepted.{accepted-by, accepts}
 use Rattle.search.proofs.Filter.{filtered-end, filtered-short}
 use Rattle.search.proofs.Limit.{visits-limited}
+
+-- what a pass leaves in the list where it writes
+pub where-written : (q : Query) (l m : List ℕ) (writing : Bool) → writing ≡ true → m ≡ cond writing (withEntries (matchingDays q) l) l → m ≡ withEntries (matchingDays q) l
+where-written q l m true e h = h
+where-written q l m false e h = absurd (false≢true e)
 
 module _ (q : Query) where
   pub measured-refused : (k : ℕ) → k ≡ refusalOf q → (k ≡ 0 → ⊥) → Measured q (record { refusal = k; length = 0; examined = 0 })

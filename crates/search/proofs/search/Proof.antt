@@ -6,7 +6,7 @@ use denote.Ref.{now}
 use lib.ListN.{length}
 use Rattle.search.specs.Search.{capacity}
 use Rattle.query.proofs.Accepted.{accepted-by}
-use Rattle.search.proofs.Answers.{refused, too-many, all-written, until-accepted, until-matching, roomy-fits}
+use Rattle.search.proofs.Answers.{where-written, refused, too-many, all-written, until-accepted, until-matching, roomy-fits}
 use Rattle.search.proofs.Entries.{no-entries}
 use Rattle.search.proofs.search.Statement.{statement}
 use Rattle.search.proofs.search.Tie as tie
@@ -42,7 +42,7 @@ returns-2 c =
     let e = sym (c .before .before .before .before .before .before .before .before .refusal .ensures) ∙ c .before .before .before .before .before .before .before .if1 .left in
     let t = c .before .before .before .before .scan .ensures .0 in
     rw (c .told .ensures)
-    (all-written _ _ _ _ e (t .count) (t .visits) _ (omega (arith, roomy-fits (c .before .before .before .before .before .before .before .before .before .before .args .query) (capacity (now (c .before .before .before .before .before .before .before .before .before .before .args .list))) e (c .before .if2 .taken), t .count)) (rw (c .before .if2 .taken) at (c .before .before .before .before .scan .ensures .1)))
+    (all-written _ _ _ _ e (t .count) (t .visits) _ (omega (arith, roomy-fits (c .before .before .before .before .before .before .before .before .before .before .args .query) (capacity (now (c .before .before .before .before .before .before .before .before .before .before .args .list))) e (c .before .if2 .taken), t .count)) (where-written _ _ _ _ (c .before .if2 .taken) (c .before .before .before .before .scan .ensures .1)))
 
 cast-needed : tie.Need-cast-needed
 cast-needed c = search needs
