@@ -58,7 +58,7 @@ static void pair(const char *what, job a, job b, double most) {
         if (u - t < best_a) best_a = u - t;
         if (v - u < best_b) best_b = v - u;
     }
-    printf("%-46s %12.1f us %12.1f us %8.2f   %s %.1f\n", what, best_a / 1e3, best_b / 1e3, best_a / best_b, most > 0 ? "at most" : "at least 1 /",
+    printf("%-46s %12.1f us %12.1f us %8.2f   %s %.4g\n", what, best_a / 1e3, best_b / 1e3, best_a / best_b, most > 0 ? "at most" : "at least 1 /",
            most > 0 ? most : -most);
 }
 
@@ -70,6 +70,7 @@ static size_t needed(uint32_t width) { return 4 * (size_t)graha_search_length(0,
 static void *nothing(void *unused) { return unused; }
 static void *search_all(void *unused) {
     ours(SPARSE, ROOM);
+    ours(SPARSE, needed(SPARSE));
     ours(DENSE, needed(DENSE));
     sink += graha_search_length(0, DAYS - 1, 0, SPARSE, 0) + graha_search_looked(0, DAYS - 1, 0, SPARSE, 0);
     return unused;
@@ -106,6 +107,7 @@ static size_t depth(void *(*work)(void *)) {
 int main(int count, char **word) {
     if (count == 3 && !strcmp(word[1], "once")) {
         if (!strcmp(word[2], "sparse")) ours(SPARSE, ROOM);
+        else if (!strcmp(word[2], "short")) ours(SPARSE, needed(SPARSE));
         else if (!strcmp(word[2], "dense")) ours(DENSE, ROOM);
         else if (!strcmp(word[2], "plain-sparse")) plain(SPARSE, ROOM);
         else if (!strcmp(word[2], "plain-dense")) plain(DENSE, ROOM);
@@ -123,9 +125,12 @@ int main(int count, char **word) {
     }
     printf("%-46s %15s %15s %8s   %s\n", "whole span, Mondays", "proved", "plain C", "ratio", "to reach");
     pair("sparse search, an entry for each day", search_job(ours, SPARSE, ROOM), search_job(plain, SPARSE, ROOM), 1.1);
-    pair("sparse search, a list that just fits", search_job(ours, SPARSE, needed(SPARSE)), search_job(plain, SPARSE, ROOM), 2.0);
+    pair("sparse search, a list that just fits", search_job(ours, SPARSE, needed(SPARSE)), search_job(plain, SPARSE, ROOM), 1.15);
+    pair("sparse search, a list of 1000 entries", search_job(ours, SPARSE, 4000), search_job(plain, SPARSE, ROOM), 1.15);
+    pair("sparse search, refused: an entry short", search_job(ours, SPARSE, needed(SPARSE) - 4), search_job(plain, SPARSE, ROOM), 1.1);
     pair("dense search, an entry for each day", search_job(ours, DENSE, ROOM), search_job(plain, DENSE, ROOM), 1.1);
-    pair("dense search, a list that just fits", search_job(ours, DENSE, needed(DENSE)), search_job(plain, DENSE, ROOM), 2.0);
+    pair("dense search, a list that just fits", search_job(ours, DENSE, needed(DENSE)), search_job(plain, DENSE, ROOM), 1.8);
+    pair("dense search, refused: an entry short", search_job(ours, DENSE, needed(DENSE) - 4), search_job(plain, DENSE, ROOM), 1.1);
     pair("sparse search, against a test of every day", search_job(ours, SPARSE, ROOM), search_job(every, SPARSE, ROOM), -50);
     printf("%-46s %15s %15s %8s   %s\n", "each of 401,600 days", "proved", "plain C", "ratio", "to reach");
     pair("mean Sun", call_job(graha_mean_sun), call_job(plain_mean_sun), 1.1);

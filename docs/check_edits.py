@@ -4,7 +4,7 @@ crate is refused says of one of them that it is, so the prover's log is read for
 
 - every function that the edit changes is refused, by a fact that fails in that function's own proof (or by `search`, where it has none);
 - where the edit changes what a function promises too, or brings a new one, it may be proved: then a fact fails in a function that names it;
-- where it changes a constant or a struct, a fact fails in the proof of a function that names it; where a meaning or a law, in some proof.
+- where it changes a constant (or a struct), a fact fails in the proof of a function that names it or a constant made of it; where a meaning or a law, in some proof.
 
 A proof that no longer fits the code (a name that is not there, a step that hangs on a refused one) is no fact. docs/contracts.md must
 name every edit, and no edit that is not there.
@@ -60,6 +60,14 @@ def changed(before, after):
     return [name for name in sorted({*before, *after}) if before.get(name) != after.get(name)]
 
 
+def made_of(name, texts):
+    """The name of a constant, and of each constant that is made of it."""
+    names = [name]
+    for made in names:
+        names += [other[6:] for other in texts if other.startswith("const ") and other[6:] not in names and re.search(rf"\b{made}\b", texts[other])]
+    return names
+
+
 def proof_of(function):
     return "proofs/" + "/".join(function.split("::")[1:]) + "/Proof.antt"
 
@@ -85,7 +93,8 @@ def complaints(crate, label):
         elif name in own and own[name] not in facts:
             found.append(f"no fact fails in {name}")
         elif name.startswith("const "):
-            users = {own[user] for user in own if user not in wrong and re.search(rf"\b{name[6:]}\b", before[user])}
+            names = "|".join(made_of(name[6:], before))
+            users = {own[user] for user in own if user not in wrong and re.search(rf"\b({names})\b", before[user])}
             if not users & facts:
                 found.append(f"no fact fails in a function that names {name[6:]} and stands as it was")
     reached = [name for name in own if own[name] in facts]

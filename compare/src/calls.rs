@@ -1,5 +1,6 @@
 //! The calls of the two static archives: `host`, the museum's C calls, and `bridge`, a test library
-//! that reaches the search with every condition. A number of a refused call is 0.
+//! that reaches the search and the look with every condition, and the text that `find` prints. A
+//! number of a refused call is 0, but with 7.
 
 #[link(name = "host", kind = "static")]
 unsafe extern "C" {
@@ -73,4 +74,44 @@ unsafe extern "C" {
         -> u32;
     pub fn bridge_length(query: *const u8, query_len: usize) -> u32;
     pub fn bridge_looked(query: *const u8, query_len: usize) -> u32;
+
+    pub fn bridge_examine_result(query: *const u8, query_len: usize, day: u32) -> u32;
+    pub fn bridge_examine_matches(query: *const u8, query_len: usize, day: u32) -> u32;
+    pub fn bridge_examine_next(query: *const u8, query_len: usize, day: u32) -> u32;
+
+    /// List and buffer are lent for the call. Each of the three calls fills the buffer.
+    pub fn bridge_lines_result(
+        list: *const u8,
+        list_len: usize,
+        from: u32,
+        buffer: *mut u8,
+        buffer_len: usize,
+    ) -> u32;
+    pub fn bridge_lines_bytes(
+        list: *const u8,
+        list_len: usize,
+        from: u32,
+        buffer: *mut u8,
+        buffer_len: usize,
+    ) -> u32;
+    pub fn bridge_lines_next(
+        list: *const u8,
+        list_len: usize,
+        from: u32,
+        buffer: *mut u8,
+        buffer_len: usize,
+    ) -> u32;
+
+    pub fn bridge_heading_result(
+        length: u32,
+        examined: u32,
+        buffer: *mut u8,
+        buffer_len: usize,
+    ) -> u32;
+    pub fn bridge_heading_bytes(
+        length: u32,
+        examined: u32,
+        buffer: *mut u8,
+        buffer_len: usize,
+    ) -> u32;
 }

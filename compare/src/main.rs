@@ -26,6 +26,13 @@ fn main() {
     checks.part("general searches", |checks| {
         runs::general_search::run(checks, &almanac)
     });
+    checks.part("searches about the kept days", |checks| {
+        runs::kept::run(checks, &almanac)
+    });
+    checks.part("looks", |checks| runs::look::run(checks, &almanac));
+    checks.part("lines into a buffer", |checks| {
+        runs::lines::run(checks, &almanac)
+    });
     checks.part("day sheets", |checks| {
         runs::day_sheet::run(checks, &almanac)
     });

@@ -14,6 +14,7 @@
 use std::collections::BTreeSet;
 
 use super::almanac::Almanac;
+use super::catalogue::{self, WEEKDAYS};
 use super::civil::Date;
 use super::days::LAST_DAY;
 use super::refusal::{
@@ -22,7 +23,7 @@ use super::refusal::{
 use super::search::{Arc, Query};
 
 /// A page of so many bytes, or more, is refused as a whole.
-pub const TOO_LONG: usize = 4_194_304;
+pub const TOO_LONG: usize = 524_288;
 
 /// The refusals of lines. The page has the gravest of its lines'.
 const GRAVEST_FIRST: [u32; 5] = [
@@ -33,22 +34,10 @@ const GRAVEST_FIRST: [u32; 5] = [
     BAD_CONDITION,
 ];
 
-pub const WEEKDAYS: [&str; 7] = [
-    "monday",
-    "tuesday",
-    "wednesday",
-    "thursday",
-    "friday",
-    "saturday",
-    "sunday",
-];
-
 /// In the order of paper 01's table of mean places.
 pub const BODIES: [&str; 9] = [
     "sun", "moon", "apogee", "node", "mars", "mercury", "jupiter", "venus", "saturn",
 ];
-
-const HEADING: &str = "day date weekday tithi nakshatra yoga karana";
 
 /// What standard error has to say.
 #[derive(Debug)]
@@ -226,31 +215,6 @@ fn read(almanac: &Almanac, text: &str) -> Result<Query, (u32, usize)> {
     gravest.map_or(Ok(query), Err)
 }
 
-/// The number of the days found and of those looked at, the heading, and a line for each day found.
-fn found(almanac: &Almanac, query: &Query) -> String {
-    let found = query.search(almanac).expect("all lines are well-formed");
-    let counts = [found.matching.len(), found.visited.len()];
-    let mut lines = vec![
-        format!("found {} looked {}", counts[0], counts[1]),
-        HEADING.to_string(),
-    ];
-    for number in found.matching {
-        let day = &almanac.days()[number as usize];
-        let Date {
-            year,
-            month,
-            day: of_month,
-        } = day.date;
-        let weekday = WEEKDAYS[day.weekday as usize];
-        let limbs = [day.tithi, day.nakshatra, day.yoga, day.karana].map(|limb| limb.to_string());
-        lines.push(format!(
-            "{number} {year}-{month}-{of_month} {weekday} {}",
-            limbs.join(" ")
-        ));
-    }
-    lines.join("\n") + "\n"
-}
-
 fn refused(refusal: u32, complaint: Complaint) -> Printed {
     Printed {
         output: format!("refused {refusal}\n"),
@@ -266,10 +230,13 @@ pub fn printed(almanac: &Almanac, page: &[u8]) -> Printed {
     // A letter for each byte: one that isn't ASCII is part of a word.
     let text: String = page.iter().map(|byte| char::from(*byte)).collect();
     match read(almanac, &text) {
-        Ok(query) => Printed {
-            output: found(almanac, &query),
-            complaint: Complaint::Nothing,
-        },
+        Ok(query) => {
+            let found = query.search(almanac).expect("all lines are well-formed");
+            Printed {
+                output: catalogue::text(almanac, &found),
+                complaint: Complaint::Nothing,
+            }
+        }
         Err((refusal, line)) => refused(refusal, Complaint::OfLine(line)),
     }
 }

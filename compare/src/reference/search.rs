@@ -57,6 +57,12 @@ pub struct Found {
     pub limit: Option<u32>,
 }
 
+/// What the look says of a day.
+pub struct Look {
+    pub matches: bool,
+    pub next: u32,
+}
+
 /// True if nothing is asked, or if what is asked meets the test.
 fn asked<T: Copy>(condition: Option<T>, test: impl Fn(T) -> bool) -> bool {
     condition.map_or(true, test)
@@ -109,7 +115,7 @@ impl Query {
 
     /// "Meets all conditions given, by the weekday, tithi, nakshatra, yoga and mean places that
     /// the rules above give that day." "A reading without conditions fits every day."
-    fn matches(&self, day: &Day) -> bool {
+    fn met_by(&self, day: &Day) -> bool {
         asked(self.weekday, |weekday| weekday == day.weekday)
             && asked(self.tithi, |tithi| tithi == day.tithi)
             && asked(self.nakshatra, |nakshatra| nakshatra == day.nakshatra)
@@ -120,7 +126,7 @@ impl Query {
     /// "Fitting days are defined from the span alone and not from the walk": every day is tested.
     fn matching_days(&self, days: &[Day]) -> Vec<u32> {
         (self.first..=self.last)
-            .filter(|day| self.matches(&days[*day as usize]))
+            .filter(|day| self.met_by(&days[*day as usize]))
             .collect()
     }
 
@@ -135,6 +141,19 @@ impl Query {
             }
             _ => number + 1,
         }
+    }
+
+    /// "One function, the look, takes a reading and a day and says, by a full statement, whether the
+    /// day fits and which day the walk takes next." It refuses as the search does, and with 2 for its
+    /// own day too. A day outside the span doesn't fit, and is followed as if the walk came to it.
+    pub fn look(&self, almanac: &Almanac, number: u32) -> Answer<Look> {
+        let day = almanac.day(number)?;
+        self.well_formed()?;
+        let in_span = (self.first..=self.last).contains(&number);
+        Ok(Look {
+            matches: in_span && self.met_by(day),
+            next: self.visited_after(number, day),
+        })
     }
 
     /// "The walk starts at the first day. [...] It ends past the last day."

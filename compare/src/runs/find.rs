@@ -151,28 +151,40 @@ fn many_days(checks: &mut Checks, almanac: &Almanac) {
     }
 }
 
+/// A piece repeated as often as a page takes beside a few other lines.
+fn many(piece: &[u8]) -> Vec<u8> {
+    piece.repeat((TOO_LONG - 200) / piece.len())
+}
+
 /// Many lines, long lines, and pages about the largest size.
 fn long(checks: &mut Checks, almanac: &Almanac) {
-    let comments = b"# a line of a long page\n".repeat(100_000);
-    let blanks = b" \t\r".repeat(650_000);
+    let comments = many(b"# a line of a long page\n");
+    let blanks = b" \t\r".repeat(TOO_LONG / 7);
     let span = b"span 1000 1360\n";
     let pages: [&[&[u8]]; 9] = [
         &[span, &comments, b"tithi 3\n"],
         &[b"weekday 9\n", &comments, b"span 9 5\n"],
-        &[&b"\n".repeat(100_000), b"tithi 3\n", span, b"tithi 3\n"],
+        &[&many(b"\n"), b"tithi 3\n", span, b"tithi 3\n"],
         &[&comments, b"Tithi 3\n"],
         &[b"span", &blanks, b"1000", &blanks, b"1001\n"],
-        &[b"span ", &b"0".repeat(3_000_000), b" 1\n"],
-        &[b"span ", &b"1 ".repeat(1_000_000), b"\n"],
-        &[&b"sun 0 0\n".repeat(100_000)],
-        &[span, b"#", &b"weekday 9 ".repeat(400_000), b"\n"],
+        &[b"span ", &many(b"0"), b" 1\n"],
+        &[b"span ", &many(b"1 "), b"\n"],
+        &[&many(b"sun 0 0\n")],
+        &[span, b"#", &many(b"weekday 9 "), b"\n"],
     ];
     for pieces in pages {
         compare(checks, almanac, &pieces.concat());
     }
-    for length in [TOO_LONG - 1, TOO_LONG, TOO_LONG + 1, 5_000_000] {
+    for length in [
+        TOO_LONG - 1,
+        TOO_LONG,
+        TOO_LONG + 1,
+        2 * TOO_LONG,
+        8 * TOO_LONG,
+        5_000_000,
+    ] {
         for first in ["span 1000 1360\n", "weekday 9\n"] {
-            let mut page = [first.as_bytes(), &comments, &comments].concat();
+            let mut page = [first.as_bytes(), &comments].concat();
             page.resize(length - 1, b' ');
             page.push(b'\n');
             compare(checks, almanac, &page);
@@ -187,12 +199,18 @@ fn in_pieces(checks: &mut Checks, almanac: &Almanac) {
     compare_pieces(checks, almanac, &[b"span 5 9", b"\n"]);
     compare_pieces(checks, almanac, &[b"sp", b"an 5 9\nweek", b"day ", b"1\n"]);
     compare_pieces(checks, almanac, &[b"span 5 9\n", b"x"]);
-    let comments = b"# a line\n".repeat(20_000);
+    let comments = b"# a line\n".repeat(TOO_LONG / 20);
     compare_pieces(
         checks,
         almanac,
         &[&comments, b"span 5 9\n", &comments, b"span 9 5\n"],
     );
+    // The last piece makes the page too long, or all but.
+    let mut page = [b"span 5 9\n", &many(b"# a line\n")[..]].concat();
+    page.resize(TOO_LONG - 2, b'\n');
+    for last in [&b"\n"[..], b"\n\n", b"\n\n\n"] {
+        compare_pieces(checks, almanac, &[&page, last]);
+    }
 }
 
 /// The lines of a random query; any conditions, or one or two over a longer span.

@@ -14,11 +14,11 @@ use super::queries::{
 use super::searches::{self, SearchCalls};
 
 #[derive(Debug)]
-struct HostSearch {
-    first: u32,
-    last: u32,
-    sun: Arc,
-    weekday: u32,
+pub struct HostSearch {
+    pub first: u32,
+    pub last: u32,
+    pub sun: Arc,
+    pub weekday: u32,
 }
 
 impl SearchCalls for HostSearch {

@@ -3,7 +3,8 @@
 
 use crate::random::Random;
 use crate::reference::almanac::Almanac;
-use crate::reference::page::{BODIES, WEEKDAYS};
+use crate::reference::catalogue::WEEKDAYS;
+use crate::reference::page::BODIES;
 use crate::reference::search::Query;
 
 /// A line's words, which are to be separated by blanks.

@@ -139,3 +139,44 @@ pub fn random_query(random: &mut Random, almanac: &Almanac, given: u32, most: u3
     }
     query
 }
+
+/// Queries of one condition each: at the ends of its range, or `past` them by 1.
+pub fn at_range_ends((first, last): Span, past: u32) -> Vec<Query> {
+    let mut queries = Vec::new();
+    let mut add = |set: &dyn Fn(&mut Query)| {
+        let mut query = Query::without_conditions(first, last);
+        set(&mut query);
+        queries.push(query);
+    };
+    add(&|query| query.weekday = Some(6 + past));
+    add(&|query| query.tithi = Some(29 + past));
+    add(&|query| query.nakshatra = Some(26 + past));
+    add(&|query| query.yoga = Some(26 + past));
+    for body in 0..9 {
+        for (start, width) in [
+            (1_295_999 + past, 1),
+            (600_000, 1 - past),
+            (600_000, 1_296_000 + past),
+        ] {
+            add(&|query| query.arcs[body] = Some(Arc::new(start, width)));
+        }
+    }
+    queries
+}
+
+/// Puts one or more of a query's given conditions out of range, or its span.
+pub fn spoil(random: &mut Random, query: &mut Query) {
+    let too_large = |random: &mut Random, largest: u32| {
+        random.one_of(&[largest + 1, largest + 256, 1 << 31, u32::MAX])
+    };
+    for _ in 0..random.between(1, 3) {
+        match random.below(14) {
+            0 => query.weekday = Some(too_large(random, 6)),
+            1 => query.tithi = Some(too_large(random, 29)),
+            2 => query.nakshatra = Some(too_large(random, 26)),
+            3 => query.yoga = Some(too_large(random, 26)),
+            4 => (query.first, query.last) = random.one_of(&REFUSED_SPANS),
+            body => query.arcs[body as usize - 5] = Some(random.one_of(&REFUSED_ARCS)),
+        }
+    }
+}

@@ -4,8 +4,10 @@
 use std::collections::BTreeSet;
 
 use crate::checks::Checks;
-use crate::reference::refusal::{result_number, Answer};
+use crate::reference::refusal::Answer;
 use crate::reference::search::Found;
+
+use super::lent::Lent;
 
 /// One input of a search, and the three calls that take it.
 pub trait SearchCalls {
@@ -18,49 +20,36 @@ pub trait SearchCalls {
     fn input(&self) -> String;
 }
 
-/// Bytes on each side of a list that no call may touch.
-const GUARD: usize = 16;
+/// The lengths in bytes of lists of so many entries, each with tails of 0 to 3 bytes.
+pub fn with_tails(entries: impl IntoIterator<Item = usize>) -> BTreeSet<usize> {
+    let tails = |count| 4 * count..4 * count + 4;
+    entries.into_iter().flat_map(tails).collect()
+}
 
-/// The list's lengths in bytes that tell one answer from another: no entry, one entry short of the
-/// need, exact, one over, each with tails of 0 to 3 bytes, and `most` entries.
+/// The lengths that tell one answer from another: no entry, one entry short of the need, exact, one
+/// over, each with tails, and `most` entries.
 fn list_lengths(matching: usize, most: usize) -> BTreeSet<usize> {
-    let entries = [0, matching.saturating_sub(1), matching, matching + 1];
-    let mut lengths = BTreeSet::from([4 * most]);
-    for count in entries {
-        lengths.extend(4 * count..4 * count + 4);
-    }
+    let mut lengths = with_tails([0, matching.saturating_sub(1), matching, matching + 1]);
+    lengths.insert(4 * most);
     lengths
 }
 
-/// Memory to lend, filled with a pattern that differs from length to length.
-fn patterned(length: usize) -> Vec<u8> {
-    (0..length)
-        .map(|at| (at * 151 + length * 89 + 0xA5) as u8)
-        .collect()
-}
-
-/// A search with a list of one length, at an address that is seldom a multiple of 4.
+/// A search with a list of one length.
 fn compare_list<C: SearchCalls>(
     checks: &mut Checks,
     calls: &C,
     expected: &Answer<Found>,
     length: usize,
 ) {
-    let before = GUARD + length % 7;
-    let lent = before..before + length;
-    let mut memory = patterned(before + length + GUARD);
-    let mut memory_after = memory.clone();
-    let mut result = result_number(expected);
-    if let Ok(found) = expected {
-        result = found.result_for(length / 4);
-        memory_after[lent.clone()].copy_from_slice(&found.list_after(&memory[lent.clone()]));
-    }
-
-    let came = calls.search(&mut memory[lent]);
+    let mut list = Lent::new(length);
+    let (result, list_after) = match expected {
+        Ok(found) => (found.result_for(length / 4), found.list_after(list.bytes())),
+        Err(refusal) => (*refusal, list.bytes().to_vec()),
+    };
+    let came = calls.search(list.bytes_mut());
     let input = || format!("{}, a list of {length} bytes", calls.input());
     checks.same(C::NAMES[0], input, result, came);
-    let input = || format!("{}, all bytes from {before} before the list on", input());
-    checks.same_bytes(C::NAMES[0], input, &memory_after, &memory);
+    list.compare(checks, C::NAMES[0], input, &list_after);
 }
 
 /// All three calls. `most` is the number of entries of the longest list.
@@ -69,6 +58,17 @@ pub fn compare<C: SearchCalls>(
     calls: &C,
     expected: &Answer<Found>,
     most: usize,
+) {
+    let matching = expected.as_ref().map_or(0, |found| found.matching.len());
+    compare_lists(checks, calls, expected, list_lengths(matching, most));
+}
+
+/// All three calls, the search with a list of each of these lengths in bytes.
+pub fn compare_lists<C: SearchCalls>(
+    checks: &mut Checks,
+    calls: &C,
+    expected: &Answer<Found>,
+    lengths: BTreeSet<usize>,
 ) {
     let input = || calls.input();
     let (length, looked) = match expected {
@@ -90,7 +90,7 @@ pub fn compare<C: SearchCalls>(
             checks.at_most(C::NAMES[2], input, limit, looked_came);
         }
     }
-    for list_length in list_lengths(length, most) {
+    for list_length in lengths {
         compare_list(checks, calls, expected, list_length);
     }
 }

@@ -179,6 +179,17 @@ fn search(checks: &mut Checks, almanac: &Almanac) {
     );
     checks.same("room for two", input, 0, found.result_for(2));
     checks.same("room for one", input, 7, found.result_for(1));
+    for (day, fits, next) in [
+        (0, false, 11),
+        (11, true, 12),
+        (12, false, 376),
+        (376, true, 377),
+    ] {
+        let came = query.look(almanac, day);
+        let came = came.map(|look| (look.matches, look.next));
+        let input = || format!("day {day}, {query:?}");
+        checks.same("the look", input, Ok((fits, next)), came);
+    }
 }
 
 /// "What the table reckons": the sheet of day 33649.

@@ -7,36 +7,40 @@ use lib.Dec.{eqb}
 use Rattle.query.specs.declared.Asked.{Asked}
 use Rattle.query.specs.declared.Arc.{Arc}
 use Rattle.query.specs.declared.Query.{Query}
-use Rattle.search.specs.Search.{entryAt}
+use Rattle.entries.specs.Entries.{entryAt}
 
 abbrev pub queryBytes : ℕ
 queryBytes = 148
 
+-- number k of the bytes
+abbrev pub numberFrom : List ℕ → ℕ → ℕ
+numberFrom bytes k = entryAt bytes k .number
+
 -- given is any number but 0
-abbrev pub givenAt : List ℕ → ℕ → Bool
-givenAt bytes k = not (eqb (entryAt bytes k) 0)
+abbrev pub givenFrom : List ℕ → ℕ → Bool
+givenFrom bytes k = not (eqb (numberFrom bytes k) 0)
 
 -- given, value
-unfoldable pub askedAt : List ℕ → ℕ → Asked
-askedAt bytes k = record { given = givenAt bytes k; value = entryAt bytes (k + 1) }
+unfoldable pub askedFrom : List ℕ → ℕ → Asked
+askedFrom bytes k = record { given = givenFrom bytes k; value = numberFrom bytes (k + 1) }
 
 -- given, start, width
-unfoldable pub arcAt : List ℕ → ℕ → Arc
-arcAt bytes k = record { given = givenAt bytes k; start = entryAt bytes (k + 1); width = entryAt bytes (k + 2) }
+unfoldable pub arcFrom : List ℕ → ℕ → Arc
+arcFrom bytes k = record { given = givenFrom bytes k; start = numberFrom bytes (k + 1); width = numberFrom bytes (k + 2) }
 
 -- the nine arcs in the order of the bodies
-unfoldable pub arcsOf : List ℕ → List Arc
-arcsOf bytes = map (arcAt bytes) (10 ∷ 13 ∷ 16 ∷ 19 ∷ 22 ∷ 25 ∷ 28 ∷ 31 ∷ 34 ∷ [])
+unfoldable pub arcsFrom : List ℕ → List Arc
+arcsFrom bytes = map (arcFrom bytes) (10 ∷ 13 ∷ 16 ∷ 19 ∷ 22 ∷ 25 ∷ 28 ∷ 31 ∷ 34 ∷ [])
 
 -- first and last day, weekday, tithi, nakshatra, yoga, and the arcs
-unfoldable pub queryOf : List ℕ → Query
-queryOf bytes =
+unfoldable pub queryFrom : List ℕ → Query
+queryFrom bytes =
     record {
-      first = entryAt bytes 0;
-      last = entryAt bytes 1;
-      weekday = askedAt bytes 2;
-      tithi = askedAt bytes 4;
-      nakshatra = askedAt bytes 6;
-      yoga = askedAt bytes 8;
-      arcs = arcsOf bytes;
+      first = numberFrom bytes 0;
+      last = numberFrom bytes 1;
+      weekday = askedFrom bytes 2;
+      tithi = askedFrom bytes 4;
+      nakshatra = askedFrom bytes 6;
+      yoga = askedFrom bytes 8;
+      arcs = arcsFrom bytes;
     }

@@ -1,5 +1,8 @@
 // The general search as C calls, for comparison runs and not for hosts: a query comes as 148 bytes, 37 numbers of four, low byte first.
 // They are the first and the last day; for weekday, tithi, nakshatra and yoga: given (0 no, any other number yes) and value; for each body: given, start and width.
+mod looks;
+mod pieces;
+
 use days::refusal;
 use query::Arc;
 use query::Asked;
@@ -7,27 +10,34 @@ use query::Query;
 use search::Found;
 ghost use mathlib.Core.Path.{_≡_};
 ghost use Prim.Native.Nat.{_<_};
-ghost use Rattle.bridge.specs.Bytes.{askedAt, arcAt as arcIs, arcsOf, queryOf};
-ghost use Rattle.bridge.specs.Answers.{BridgeMeasured, bridgeResult, bridgeList, bridgeLength, bridgeLooked};
+ghost use Rattle.bridge.specs.Bytes.{numberFrom, askedFrom, arcFrom, arcsFrom, queryFrom};
+ghost use Rattle.bridge.specs.Answers.{bridgeResult, bridgeList, bridgeLength, bridgeLooked};
+ghost use Rattle.bridge.specs.Numbers.{BridgeMeasured};
 
 const QUERY_BYTES: usize = 148;
 
+fn number(query: &[u8], place: usize) -> u32
+    ensures { λ r. ⌜ r ≡ numberFrom (now (query .entry)) place ⌝ }
+{
+    entries::entry_at(query, place).number
+}
+
 fn asked(query: &[u8], place: usize) -> Asked
     requires { ⌜ place < 36 ⌝ }
-    ensures { λ r. ⌜ r ≡ askedAt (now (query .entry)) place ⌝ }
+    ensures { λ r. ⌜ r ≡ askedFrom (now (query .entry)) place ⌝ }
 {
-    let given = search::entry_at(query, place) != 0;
-    let value = search::entry_at(query, place + 1);
+    let given = number(query, place) != 0;
+    let value = number(query, place + 1);
     Asked { given, value }
 }
 
 fn arc(query: &[u8], place: usize) -> Arc
     requires { ⌜ place < 35 ⌝ }
-    ensures { λ r. ⌜ r ≡ arcIs (now (query .entry)) place ⌝ }
+    ensures { λ r. ⌜ r ≡ arcFrom (now (query .entry)) place ⌝ }
 {
-    let given = search::entry_at(query, place) != 0;
-    let start = search::entry_at(query, place + 1);
-    let width = search::entry_at(query, place + 2);
+    let given = number(query, place) != 0;
+    let start = number(query, place + 1);
+    let width = number(query, place + 2);
     Arc {
         given,
         start,
@@ -36,7 +46,7 @@ fn arc(query: &[u8], place: usize) -> Arc
 }
 
 fn arcs(query: &[u8]) -> [Arc; 9]
-    ensures { λ r. ⌜ r ≡ arcsOf (now (query .entry)) ⌝ }
+    ensures { λ r. ⌜ r ≡ arcsFrom (now (query .entry)) ⌝ }
 {
     [
         arc(query, 10),
@@ -52,10 +62,10 @@ fn arcs(query: &[u8]) -> [Arc; 9]
 }
 
 fn query_of(query: &[u8]) -> Query
-    ensures { λ r. ⌜ r ≡ queryOf (now (query .entry)) ⌝ }
+    ensures { λ r. ⌜ r ≡ queryFrom (now (query .entry)) ⌝ }
 {
-    let first = search::entry_at(query, 0);
-    let last = search::entry_at(query, 1);
+    let first = number(query, 0);
+    let last = number(query, 1);
     let weekday = asked(query, 2);
     let tithi = asked(query, 4);
     let nakshatra = asked(query, 6);
@@ -85,7 +95,7 @@ pub extern "C" fn bridge_search(query: &[u8], list: &mut [u8]) -> u32
     refusal::BAD_INPUT
 }
 
-// The two numbers that a search tells.
+// The two numbers of a search.
 fn measured(query: &[u8]) -> Found
     ensures { λ r. ⌜ BridgeMeasured (now (query .entry)) r ⌝ }
 {

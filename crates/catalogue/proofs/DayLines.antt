@@ -1,43 +1,45 @@
--- The line of a day, put together from what is found of the day, and that it fits. Assumes nothing.
-use mathlib.Core.Path.{_≡_, _∙_}
+-- The line of a day, put together from what is found of the day, and that it fits a line: each number of it has few digits, those of a date
+-- since each of the three grows by at most one from date to date. Assumes nothing.
+use mathlib.Core.Path.{_≡_, ap, _∙_}
+use mathlib.Core.Bool.{Bool, true, false, cond}
 use mathlib.Core.List.{List, [], _∷_, _++_, append-assoc}
-use Prim.Native.Nat.{ℕ, zero, suc, _≤_, _<_}
+use Prim.Native.Nat.{ℕ, zero, suc, _+_, _≤_, _<_}
+use native.Mathlib.Nat.{add-suc}
 use native.Mathlib.Omega.{arith}
-use borrow.Author.Tests.{le-leb, lt-leb}
+use borrow.Author.Tests.{le-leb}
+use lib.Dec.{ltb}
 use lib.ListN.{length, length-append}
 use Rattle.civil.specs.declared.Date.{Date}
 use Rattle.civil.specs.declared.DateAnswer.{DateAnswer}
+use Rattle.civil.specs.Calendar.{sameDate, lastJulian, firstGregorian, monthDays, next, dateOn}
 use Rattle.civil.specs.Answers.{dateOfDay}
 use Rattle.days.specs.declared.DayAnswer.{DayAnswer}
 use Rattle.days.specs.declared.NumberAnswer.{NumberAnswer}
+use Rattle.days.specs.Refusals.{accepted}
 use Rattle.days.specs.Days.{lastDay, pairAt, weekdayOn, weekdayAt, weekdayOf, dayOf}
-use Rattle.days.proofs.Laws.{that-day, no-such-day, that-weekday, given-number}
+use Rattle.days.proofs.Laws.{that-day, day-of, pair-in-range, that-weekday, given-number}
 use Rattle.panchanga.specs.declared.Panchanga.{Panchanga}
-use Rattle.panchanga.specs.OnDays.{panchangaOf}
-use Rattle.sheet.specs.Sheets.{spaced}
+use Rattle.panchanga.specs.OnDays.{panchangaOf, trueSunAt, trueMoonAt, tithiAt, nakshatraAt, yogaAt, karanaAt}
+use Rattle.panchanga.proofs.Bounds.{tithi-small, nakshatra-small, yoga-small, karana-range}
 use Rattle.text.specs.Decimal.{digitsOf}
 use Rattle.text.specs.declared.Line.{Line}
-use Rattle.text.specs.Lines.{space, newline, capacity, withByte, withBytes}
+use Rattle.text.specs.Lines.{space, newline, lineCapacity, withByte, withBytes, spaced}
 use Rattle.text.proofs.Lines.{with-byte-is, with-bytes-append}
-use Rattle.text.proofs.Printing.{digits-length}
-use Rattle.values.specs.Names.{weekdayNames}
+use Rattle.text.proofs.Printing.{digits-length, digits-some}
+use Rattle.words.specs.Names.{weekdayNames}
 use Rattle.words.specs.Words.{nameAt}
-use Rattle.catalogue.specs.Catalogue.{heading, dateBytes, elementBytes, dayLine}
+use Rattle.catalogue.specs.Catalogue.{catalogueHeading, dateBytes, elementBytes, dayLine}
 
 -- the bytes of a line, from a day's number, date, weekday's name and elements
-abbrev pub together : ℕ → List ℕ → List ℕ → List ℕ → List ℕ
+abbrev together : ℕ → List ℕ → List ℕ → List ℕ → List ℕ
 together n date name elements =
     digitsOf n ++ (space ∷ (date ++ (space ∷ (name ++ (elements ++ (newline ∷ []))))))
 
-pub put-together :
+put-together :
     (l : Line) (n : ℕ) (date name elements : List ℕ) →
     withByte (withBytes (withBytes (withByte (withBytes (withByte (withBytes l (digitsOf n)) space) date) space) name) elements) newline
     ≡ withBytes l (together n date name elements)
 put-together l n date name elements = simp (with-byte-is, with-bytes-append, append-assoc)
-
-pub no-day : (n : ℕ) (answer : DayAnswer) → answer ≡ dayOf n → (answer .refusal ≡ 0 → ⊥) → [] ≡ dayLine n
-unfolding dayLine
-no-day n answer e r = rw (lt-leb n lastDay (no-such-day n answer e r))
 
 of-pair :
     (n : ℕ) →
@@ -48,20 +50,21 @@ unfolding dayLine dateOfDay
 of-pair n h = rw (le-leb n lastDay h)
 
 pub day-made :
-    (n : ℕ) (answer : DayAnswer) (found : DateAnswer) (weekday : NumberAnswer) (name : List ℕ) (p : Panchanga) →
+    (l : Line) (n : ℕ) (answer : DayAnswer) (found : DateAnswer) (weekday : NumberAnswer) (name : List ℕ) (p : Panchanga) →
+    n ≤ lastDay →
     answer ≡ dayOf n →
-    answer .refusal ≡ 0 →
     found ≡ dateOfDay n →
     weekday ≡ weekdayOf (answer .day) →
     name ≡ nameAt weekdayNames (weekday .number) →
     p ≡ panchangaOf (answer .day) →
-    together n (dateBytes (found .date)) name (elementBytes p) ≡ dayLine n
-day-made n answer found weekday name p ea r ef ew en ep =
-    let k = that-day n answer ea r in
+    withByte (withBytes (withBytes (withByte (withBytes (withByte (withBytes l (digitsOf n)) space) (dateBytes (found .date))) space) name) (elementBytes p)) newline
+    ≡ withBytes l (dayLine n)
+day-made l n answer found weekday name p h ea ef ew en ep =
+    let k = that-day n answer ea (ap (λ (a : DayAnswer). a .refusal) (ea ∙ day-of n h)) in
     let w : weekday .number ≡ weekdayOn n = given-number weekdayAt _ ew (k .range) ∙ that-weekday k in
-    rw (ep, k .pair, ef, en, w) (of-pair n (k .number))
+    put-together l n (dateBytes (found .date)) name (elementBytes p) ∙ ap (withBytes l) (rw (ep, k .pair, ef, en, w) (of-pair n h))
 
-pub name-short : (n : ℕ) → length (nameAt weekdayNames n) ≤ 9
+name-short : (n : ℕ) → length (nameAt weekdayNames n) ≤ 9
 unfolding nameAt
 name-short zero = omega arith
 name-short (suc zero) = omega arith
@@ -72,40 +75,57 @@ name-short (suc (suc (suc (suc (suc zero))))) = omega arith
 name-short (suc (suc (suc (suc (suc (suc zero)))))) = omega arith
 name-short (suc (suc (suc (suc (suc (suc (suc n))))))) = omega arith
 
--- each number is a u32, of at most ten digits
-pub record Small (n : ℕ) (x : Date) (p : Panchanga) : Type 0 where
-  pub number : n < 4294967296
-  pub year : x .year < 4294967296
-  pub month : x .month < 4294967296
-  pub day : x .day < 4294967296
-  pub tithi : p .tithi < 4294967296
-  pub nakshatra : p .nakshatra < 4294967296
-  pub yoga : p .yoga < 4294967296
-  pub karana : p .karana < 4294967296
+record Small (most : ℕ) (x : Date) : Type 0 where
+  year : x .year ≤ most
+  month : x .month ≤ most
+  day : x .day ≤ most
 
-ten : (n : ℕ) → n < 4294967296 → length (digitsOf n) ≤ 10
-ten n h = digits-length 9 n (omega arith)
+next-small : (most : ℕ) (x : Date) → 1582 ≤ most → Small most x → Small (suc most) (next x)
+unfolding next
+next-small most x h s = go (sameDate x lastJulian) (ltb (x .day) (monthDays (x .year) (x .month))) (ltb (x .month) 12)
+  where
+    go :
+        (a b c : Bool) →
+        Small (suc most)
+        (cond a firstGregorian
+        (cond b (record { year = x .year; month = x .month; day = x .day + 1 })
+        (cond c (record { year = x .year; month = x .month + 1; day = 1 }) (record { year = x .year + 1; month = 1; day = 1 }))))
+    go true b c = omega arith
+    go false true c = omega (arith, s .year, s .month, s .day)
+    go false false true = omega (arith, s .year, s .month, s .day)
+    go false false false = omega (arith, s .year, s .month, s .day)
 
-pub together-fits :
-    (n : ℕ) (x : Date) (name : List ℕ) (p : Panchanga) →
-    Small n x p →
-    length name ≤ 9 →
-    length (together n (dateBytes x) name (elementBytes p)) ≤ capacity
-unfolding dateBytes elementBytes spaced
-together-fits n x name p small short =
-    simp length-append
-    (omega (
-      arith,
-      ten n (small .number),
-      ten (x .year) (small .year),
-      ten (x .month) (small .month),
-      ten (x .day) (small .day),
-      ten (p .tithi) (small .tithi),
-      ten (p .nakshatra) (small .nakshatra),
-      ten (p .yoga) (small .yoga),
-      ten (p .karana) (small .karana),
-    ))
+date-small : (n : ℕ) → Small (1582 + n) (dateOn n)
+unfolding dateOn
+date-small zero = omega arith
+date-small (suc n) = rw (add-suc 1582 n) (next-small (1582 + n) (dateOn n) (omega arith) (date-small n))
 
-pub heading-fits : (length examined : ℕ) → length < 4294967296 → examined < 4294967296 → lib.ListN.length (heading length examined) ≤ capacity
-unfolding heading
-heading-fits found looked hf hl = simp length-append (omega (arith, ten found hf, ten looked hl))
+elements-small : (n : ℕ) → n ≤ lastDay → length (elementBytes (panchangaOf (pairAt n))) ≤ 12
+elements-small n h =
+    let d = pairAt n in
+    let all : panchangaOf d ≡ record { refusal = accepted; sun = trueSunAt d; moon = trueMoonAt d; tithi = tithiAt d; nakshatra = nakshatraAt d; yoga = yogaAt d; karana = karanaAt d } =
+    unfold panchangaOf in rw (pair-in-range n h) in
+    let tithi = digits-length 1 (tithiAt d) (omega (arith, tithi-small d)) in
+    let nakshatra = digits-length 1 (nakshatraAt d) (omega (arith, nakshatra-small d)) in
+    let yoga = digits-length 1 (yogaAt d) (omega (arith, yoga-small d)) in
+    let karana = digits-length 1 (karanaAt d) (omega (arith, karana-range d)) in
+    rw all (unfold elementBytes spaced in simp length-append (omega arith))
+
+pub line-fits : (n : ℕ) → n ≤ lastDay → length (dayLine n) ≤ lineCapacity
+unfolding dayLine dateBytes
+line-fits n h =
+    let s = date-small n in
+    let number = digits-length 5 n (omega arith) in
+    let year = digits-length 5 (dateOn n .year) (omega (arith, s .year)) in
+    let month = digits-length 5 (dateOn n .month) (omega (arith, s .month)) in
+    let day = digits-length 5 (dateOn n .day) (omega (arith, s .day)) in
+    simp length-append (omega (arith, name-short (weekdayOn n), elements-small n h))
+
+pub line-some : (n : ℕ) → 1 ≤ length (dayLine n)
+unfolding dayLine
+line-some n = simp length-append (omega (arith, digits-some n))
+
+pub heading-fits : (found examined : ℕ) → found < 4294967296 → examined < 4294967296 → length (catalogueHeading found examined) ≤ lineCapacity
+unfolding catalogueHeading
+heading-fits found examined h k =
+    simp length-append (omega (arith, digits-length 9 found (omega arith), digits-length 9 examined (omega arith)))

@@ -1,1 +1,5 @@
 pub mod DayLines
+pub mod Pieces
+pub mod Together
+mod Filling
+mod Headings

@@ -1,1 +1,3 @@
 pub mod Catalogue
+pub mod Pieces
+pub mod Each

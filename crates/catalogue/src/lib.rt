@@ -1,17 +1,23 @@
-// The lines of a catalogue of days: what stands above them, and the line of a day.
+// A catalogue of days: its heading and its lines, put piece by piece into a lent buffer.
 use civil::Date;
 use days::Day;
 use days::refusal;
 use panchanga::Panchanga;
 use text::Line;
 ghost use mathlib.Core.Path.{_≡_};
-ghost use Rattle.sheet.specs.Lines.{Holds};
-ghost use Rattle.text.specs.Lines.{withBytes};
-ghost use Rattle.catalogue.specs.Catalogue.{heading as headingOf, dateBytes, elementBytes, dayLine};
+ghost use mathlib.Core.Bool.{cond};
+ghost use Prim.Native.Nat.{_+_, _≤_};
+ghost use lib.Dec.{ltb};
+ghost use lib.ListN.{length};
+ghost use lib.Seq.{paste};
+ghost use Rattle.days.specs.Days.{lastDay};
+ghost use Rattle.text.specs.Lines.{lineCapacity, withBytes, Holds};
+ghost use Rattle.catalogue.specs.Catalogue.{catalogueHeading, dateBytes, elementBytes, dayLine};
+ghost use Rattle.catalogue.specs.Pieces.{thePiece, noPiece, linesPiece, linesAfter, headingPiece, headingAfter};
 
 // How many days were found and how many looked at, and the heading.
-pub fn heading(length: u32, examined: u32) -> Line
-    ensures { λ r. ⌜ Holds r (headingOf length examined) ⌝ }
+fn heading_line(length: u32, examined: u32) -> Line
+    ensures { λ r. ⌜ Holds r (catalogueHeading length examined) ⌝ }
 {
     let counts = Line::empty()
         .text(b"found ")
@@ -44,20 +50,103 @@ fn put_elements(line: Line, elements: Panchanga) -> Line
         .number(elements.karana)
 }
 
-// Empty for a number that is no day.
-pub fn day_line(day: u32) -> Line
+fn day_line(day: u32) -> Line
+    requires { ⌜ day ≤ lastDay ⌝ }
     ensures { λ r. ⌜ Holds r (dayLine day) ⌝ }
 {
     let answer = Day::from_number(day);
-    if answer.refusal != refusal::NONE {
-        return Line::empty();
-    }
     let found = civil::date_of(day);
     let elements = panchanga::of_day(answer.day);
     let weekday = answer.day.weekday();
-    let names = values::WEEKDAYS;
+    let names = words::WEEKDAYS;
     let name = words::name_at(&names, weekday.number as usize);
     let dated = put_date(Line::empty().number(day).byte(b' '), found.date);
     let named = dated.byte(b' ').text(name);
     put_elements(named, elements).byte(b'\n')
+}
+
+// What was put at the front of a buffer: how many bytes, and which entry comes next.
+pub struct Piece {
+    pub refusal: u32,
+    pub bytes: usize,
+    pub next: usize,
+}
+
+fn accepted(bytes: usize, next: usize) -> Piece
+    ensures { λ r. ⌜ r ≡ thePiece bytes next ⌝ }
+{
+    Piece {
+        refusal: refusal::NONE,
+        bytes,
+        next,
+    }
+}
+
+fn refused(refusal: u32, bytes: usize) -> Piece
+    ensures { λ r. ⌜ r ≡ noPiece refusal bytes ⌝ }
+{
+    Piece {
+        refusal,
+        bytes,
+        next: 0,
+    }
+}
+
+// A line's bytes, from byte `at` of the buffer on.
+fn put(buffer: &mut [u8], at: usize, line: Line)
+    requires { ⌜ (length (line .bytes) ≡ lineCapacity) × (line .len ≤ lineCapacity) × (at + line .len ≤ length (now buffer)) ⌝ }
+    ensures { λ _. ⌜ now (buffer .exit) ≡ paste (now (buffer .entry)) at (line .bytes) (line .len) ⌝ }
+{
+    let bytes = line.bytes;
+    let len = line.len;
+    let mut i = 0;
+    while i < len {
+        buffer[at + i] = bytes[i];
+        i += 1;
+    }
+}
+
+// The heading, or nothing where it does not fit.
+pub fn heading(length: u32, examined: u32, buffer: &mut [u8]) -> Piece
+    ensures { λ r. ⌜ r ≡ headingPiece length examined (lib.ListN.length (now (buffer .entry))) ⌝ }
+    ensures { λ _. ⌜ now (buffer .exit) ≡ headingAfter length examined (now (buffer .entry)) ⌝ }
+{
+    let line = heading_line(length, examined);
+    let len = line.len;
+    if buffer.len() < len {
+        return refused(refusal::LIST_TOO_SHORT, len);
+    }
+    put(buffer, 0, line);
+    accepted(len, 0)
+}
+
+// Where the line due cannot be put: the piece so far, or the refusal where it is empty.
+fn unless_empty(piece: Piece, from: usize, refused: Piece) -> Piece
+    ensures { λ r. ⌜ r ≡ cond (ltb from (piece .next)) piece refused ⌝ }
+{
+    if from < piece.next { piece } else { refused }
+}
+
+// The lines of a list's days from an entry on, as many as fit whole, at the front of the buffer.
+pub fn lines(list: &[u8], from: usize, buffer: &mut [u8]) -> Piece
+    ensures { λ r. ⌜ r ≡ linesPiece (now (list .entry)) from (length (now (buffer .entry))) ⌝ }
+    ensures { λ _. ⌜ now (buffer .exit) ≡ linesAfter (now (list .entry)) from (now (buffer .entry)) ⌝ }
+{
+    let mut piece = accepted(0, from);
+    loop {
+        let due = entries::entry_at(list, piece.next);
+        if due.refusal != refusal::NONE {
+            return piece;
+        }
+        if Day::LAST < due.number {
+            return unless_empty(piece, from, refused(refusal::OUT_OF_RANGE, 0));
+        }
+        let line = day_line(due.number);
+        let len = line.len;
+        if buffer.len() - piece.bytes < len {
+            return unless_empty(piece, from, refused(refusal::LIST_TOO_SHORT, len));
+        }
+        put(buffer, piece.bytes, line);
+        piece = accepted(piece.bytes + len, piece.next + 1);
+    }
 }

@@ -1,7 +1,7 @@
 -- The laws of the answers: day and date are each other's, refusals are given exactly where they are due, and the search from date to date is the count of days.
 -- Assumes nothing.
 use mathlib.Core.Bool.{Bool, true, false, cond, _&&_}
-use mathlib.Core.Path.{_≡_, refl, sym, ap, subst}
+use mathlib.Core.Path.{_≡_, refl, sym, ap, _∙_, subst}
 use Prim.Native.Nat.{ℕ, zero, suc, _+_, _-_, _≤_, _<_}
 use native.Mathlib.Numerals.{add-one}
 use native.Mathlib.Omega.{arith}
@@ -9,11 +9,12 @@ use lib.Dec.{leb}
 use borrow.Author.Tests.{leb-true, leb-false, le-leb}
 use Rattle.days.specs.declared.NumberAnswer.{NumberAnswer}
 use Rattle.days.specs.Refusals.{noSuchDate, outOfRange}
-use Rattle.days.specs.Days.{lastDay, theNumber, noNumber}
+use Rattle.days.specs.Days.{lastDay, pairAt, theNumber, noNumber, julianDayOf}
+use Rattle.days.proofs.Laws.{given, pair-in-range, count-pair}
 use Rattle.civil.specs.declared.Date.{Date}
-use Rattle.civil.specs.Calendar.{lastJulian, firstGregorian, dateExists, same, next, dateOn}
+use Rattle.civil.specs.Calendar.{lastJulian, firstGregorian, dateExists, sameDate, next, dateOn}
 use Rattle.civil.specs.Answers.{dayFrom, dayOfDate, theDate, noDate, dateOfDay}
-use Rattle.civil.specs.Serial.{serial, epochSerial}
+use Rattle.civil.specs.Serial.{serialOf, serialStart, epochSerial}
 use Rattle.civil.proofs.Dates.{real-of, is-real}
 use Rattle.civil.proofs.Next.{same-true, same-self, date-counts}
 use Rattle.civil.proofs.Read.{is-date-on}
@@ -24,16 +25,20 @@ unfolding dateOn
 date-after n = rw (add-one n)
 
 pub after-last-julian : next lastJulian ≡ firstGregorian
-unfolding next same
+unfolding next sameDate
 after-last-julian = refl
 
 -- each day's date exists
 pub date-exists : (n : ℕ) → dateExists (dateOn n) ≡ true
 date-exists n = is-real (dateOn n) (date-counts n .real)
 
+-- a date's serial number is the Julian Day Number of its day, counted from serial number 0
+pub julian-day : (n : ℕ) → n ≤ lastDay → julianDayOf (pairAt n) ≡ theNumber (serialStart + serialOf (dateOn n))
+julian-day n h = given _ (pairAt n) (pair-in-range n h) ∙ ap theNumber (omega (arith, date-counts n .counted, count-pair n))
+
 -- two days have two dates
 one-day : (m n : ℕ) → dateOn m ≡ dateOn n → m ≡ n
-one-day m n e = omega (arith, date-counts m .counted, date-counts n .counted, ap serial e)
+one-day m n e = omega (arith, date-counts m .counted, date-counts n .counted, ap serialOf e)
 
 found : (k n j : ℕ) → j < k → dayFrom k n (dateOn n) (dateOn (n + j)) ≡ theNumber (n + j)
 unfolding dayFrom dateOn
@@ -41,21 +46,21 @@ found zero n j h = absurd (omega arith)
 found (suc k) n zero h =
     let e : n + 0 ≡ n = omega arith in
     rw (e, same-self (dateOn n))
-found (suc k) n (suc j) h = go (same (dateOn n) (dateOn (n + suc j))) refl (found k (suc n) j (omega arith))
+found (suc k) n (suc j) h = go (sameDate (dateOn n) (dateOn (n + suc j))) refl (found k (suc n) j (omega arith))
   where
     e : suc n + j ≡ n + suc j
     e = omega arith
 
-    go : (t : Bool) → same (dateOn n) (dateOn (n + suc j)) ≡ t → dayFrom k (suc n) (dateOn (suc n)) (dateOn (suc n + j)) ≡ theNumber (suc n + j) → cond t (theNumber n) (dayFrom k (suc n) (next (dateOn n)) (dateOn (n + suc j))) ≡ theNumber (n + suc j)
+    go : (t : Bool) → sameDate (dateOn n) (dateOn (n + suc j)) ≡ t → dayFrom k (suc n) (dateOn (suc n)) (dateOn (suc n + j)) ≡ theNumber (suc n + j) → cond t (theNumber n) (dayFrom k (suc n) (next (dateOn n)) (dateOn (n + suc j))) ≡ theNumber (n + suc j)
     go true s r = absurd (omega (arith, one-day n (n + suc j) (same-true (dateOn n) (dateOn (n + suc j)) s)))
     go false s r = rw e at r
 
 absent : (k n : ℕ) (x : Date) → ((m : ℕ) → m < n + k → dateOn m ≡ x → ⊥) → dayFrom k n (dateOn n) x ≡ noNumber outOfRange
 unfolding dayFrom dateOn
 absent zero n x h = refl
-absent (suc k) n x h = go (same (dateOn n) x) refl (absent k (suc n) x (λ m l. h m (omega arith)))
+absent (suc k) n x h = go (sameDate (dateOn n) x) refl (absent k (suc n) x (λ m l. h m (omega arith)))
   where
-    go : (t : Bool) → same (dateOn n) x ≡ t → dayFrom k (suc n) (dateOn (suc n)) x ≡ noNumber outOfRange → cond t (theNumber n) (dayFrom k (suc n) (next (dateOn n)) x) ≡ noNumber outOfRange
+    go : (t : Bool) → sameDate (dateOn n) x ≡ t → dayFrom k (suc n) (dateOn (suc n)) x ≡ noNumber outOfRange → cond t (theNumber n) (dayFrom k (suc n) (next (dateOn n)) x) ≡ noNumber outOfRange
     go true s r = absurd (h n (omega arith) (same-true (dateOn n) x s))
     go false s r = r
 
@@ -69,7 +74,7 @@ pub data Answered (x : Date) : NumberAnswer → Type 0 where
 unfoldable pub counted : Date → NumberAnswer
 counted x =
     cond (dateExists x)
-    (cond (leb epochSerial (serial x) && leb (serial x - epochSerial) lastDay) (theNumber (serial x - epochSerial)) (noNumber outOfRange))
+    (cond (leb epochSerial (serialOf x) && leb (serialOf x - epochSerial) lastDay) (theNumber (serialOf x - epochSerial)) (noNumber outOfRange))
     (noNumber noSuchDate)
 
 -- no other answer is
@@ -86,16 +91,16 @@ answered-count : (x : Date) → Answered x (counted x)
 unfolding counted
 answered-count x = one (dateExists x) refl
   where
-    three : dateExists x ≡ true → epochSerial ≤ serial x → (t : Bool) → leb (serial x - epochSerial) lastDay ≡ t → Answered x (cond t (theNumber (serial x - epochSerial)) (noNumber outOfRange))
-    three e h true l = day (serial x - epochSerial) (leb-true _ _ l) (sym (is-date-on (serial x - epochSerial) x (record { real = real-of x e; counted = omega arith })))
-    three e h false l = outside e (λ n k d. let c = date-counts n .counted in omega (arith, ap serial d, leb-false (serial x - epochSerial) lastDay l))
+    three : dateExists x ≡ true → epochSerial ≤ serialOf x → (t : Bool) → leb (serialOf x - epochSerial) lastDay ≡ t → Answered x (cond t (theNumber (serialOf x - epochSerial)) (noNumber outOfRange))
+    three e h true l = day (serialOf x - epochSerial) (leb-true _ _ l) (sym (is-date-on (serialOf x - epochSerial) x (record { real = real-of x e; counted = omega arith })))
+    three e h false l = outside e (λ n k d. let c = date-counts n .counted in omega (arith, ap serialOf d, leb-false (serialOf x - epochSerial) lastDay l))
 
-    two : dateExists x ≡ true → (t : Bool) → leb epochSerial (serial x) ≡ t → Answered x (cond (t && leb (serial x - epochSerial) lastDay) (theNumber (serial x - epochSerial)) (noNumber outOfRange))
-    two e true l = three e (leb-true epochSerial (serial x) l) (leb (serial x - epochSerial) lastDay) refl
-    two e false l = outside e (λ n k d. let c = date-counts n .counted in omega (arith, ap serial d, leb-false epochSerial (serial x) l))
+    two : dateExists x ≡ true → (t : Bool) → leb epochSerial (serialOf x) ≡ t → Answered x (cond (t && leb (serialOf x - epochSerial) lastDay) (theNumber (serialOf x - epochSerial)) (noNumber outOfRange))
+    two e true l = three e (leb-true epochSerial (serialOf x) l) (leb (serialOf x - epochSerial) lastDay) refl
+    two e false l = outside e (λ n k d. let c = date-counts n .counted in omega (arith, ap serialOf d, leb-false epochSerial (serialOf x) l))
 
-    one : (t : Bool) → dateExists x ≡ t → Answered x (cond t (cond (leb epochSerial (serial x) && leb (serial x - epochSerial) lastDay) (theNumber (serial x - epochSerial)) (noNumber outOfRange)) (noNumber noSuchDate))
-    one true e = two e (leb epochSerial (serial x)) refl
+    one : (t : Bool) → dateExists x ≡ t → Answered x (cond t (cond (leb epochSerial (serialOf x) && leb (serialOf x - epochSerial) lastDay) (theNumber (serialOf x - epochSerial)) (noNumber outOfRange)) (noNumber noSuchDate))
+    one true e = two e (leb epochSerial (serialOf x)) refl
     one false e = no-such e
 
 pub by-count : (x : Date) → dayOfDate x ≡ counted x

@@ -8,8 +8,8 @@ use native.Mathlib.Omega.{arith}
 use lib.Dec.{ltb, eqb, lit≤}
 use borrow.Author.Tests.{ltb-true, ltb-false, eqb-true, lt-ltb, le-ltb, eq-eqb}
 use Rattle.civil.specs.declared.Date.{Date}
-use Rattle.civil.specs.Calendar.{leap, monthDays, lastJulian, firstGregorian, same, next, dateOn}
-use Rattle.civil.specs.Serial.{place, yearStart, before, gregorian, serial, epochSerial, lastJulianStamp}
+use Rattle.civil.specs.Calendar.{leap, monthDays, lastJulian, firstGregorian, sameDate, next, dateOn}
+use Rattle.civil.specs.Serial.{place, yearStart, before, gregorian, serialOf, epochSerial, lastJulianStamp}
 use Rattle.civil.proofs.Years.{unit, Keeps, keeps-julian, keeps-gregorian}
 use Rattle.civil.proofs.Months.{before-rule, unit-small, february, month-long, next-month}
 use Rattle.civil.proofs.Dates.{Fits, Real, yearOf, dayOf, stampOf, months, year-long, october}
@@ -17,15 +17,15 @@ use Rattle.civil.proofs.Dates.{Fits, Real, yearOf, dayOf, stampOf, mont
 pub same-date : {x z : Date} → x .year ≡ z .year → x .month ≡ z .month → x .day ≡ z .day → x ≡ z
 same-date a b c = λ i. record { year = a i; month = b i; day = c i }
 
-pub same-true : (x z : Date) → same x z ≡ true → x ≡ z
-unfolding same
+pub same-true : (x z : Date) → sameDate x z ≡ true → x ≡ z
+unfolding sameDate
 same-true x z e =
     let a = and-eq-true-iff (eqb (x .year) (z .year) && eqb (x .month) (z .month)) (eqb (x .day) (z .day)) .0 e in
     let b = and-eq-true-iff (eqb (x .year) (z .year)) (eqb (x .month) (z .month)) .0 (a .0) in
     same-date (eqb-true _ _ (b .0)) (eqb-true _ _ (b .1)) (eqb-true _ _ (a .1))
 
-pub same-self : (x : Date) → same x x ≡ true
-unfolding same
+pub same-self : (x : Date) → sameDate x x ≡ true
+unfolding sameDate
 same-self x = rw (eq-eqb (x .year) (x .year) refl, eq-eqb (x .month) (x .month) refl, eq-eqb (x .day) (x .day) refl)
 
 -- the calendar of a date
@@ -56,7 +56,7 @@ one-side s t a b = go (ltb lastJulianStamp s) refl
 
 pub record Follows (x z : Date) : Type 0 where
   pub real : Real z
-  pub counted : serial z ≡ serial x + 1
+  pub counted : serialOf z ≡ serialOf x + 1
 
 module _ (x : Date) (r : Real x) where
   abbrev f : Fits x
@@ -67,7 +67,7 @@ module _ (x : Date) (r : Real x) where
 
   -- from 4 to 15 October 1582
   over-the-gap : x ≡ lastJulian → Follows x firstGregorian
-  unfolding serial before monthDays
+  unfolding serialOf before monthDays
   over-the-gap e =
       record {
         real = record { fits = record { from-one = lit≤ tt; to-twelve = lit≤ tt; first = lit≤ tt; final = lit≤ tt }; kept = λ k. lit≤ tt };
@@ -76,7 +76,7 @@ module _ (x : Date) (r : Real x) where
 
   -- the next day of the same year from March on
   same-year : (z : Date) → Fits z → yearOf z ≡ yearOf x → dayOf z ≡ dayOf x + 1 → (stampOf x ≡ lastJulianStamp → ⊥) → Follows x z
-  unfolding serial
+  unfolding serialOf
   same-year z g y d n =
       let side = one-side (stampOf x) (stampOf x + 1) (λ a. omega arith) (λ a. omega arith) in
       let s : stampOf z ≡ stampOf x + 1 = omega arith in
@@ -96,7 +96,7 @@ module _ (x : Date) (r : Real x) where
 
   -- from February's last day to 1 March
   into-march : x .month ≡ 2 → monthDays (x .year) (x .month) ≤ x .day → Follows x (record { year = x .year; month = 3; day = 1 })
-  unfolding serial before
+  unfolding serialOf before
   into-march e k =
       let u = unit-small (leap (x .year)) in
       let l : x .day ≡ 28 + unit (leap (x .year)) = omega (arith, rw (e, february (x .year)) at k, rw (e, february (x .year)) at (f .final)) in
@@ -131,7 +131,7 @@ module _ (x : Date) (r : Real x) where
 -- the date after is a date, and has the next serial number
 pub next-counts : (x : Date) → Real x → Follows x (next x)
 unfolding next
-next-counts x r = one (same x lastJulian) refl
+next-counts x r = one (sameDate x lastJulian) refl
   where
     month-on : Date
     month-on = record { year = x .year; month = x .month + 1; day = 1 }
@@ -143,27 +143,27 @@ next-counts x r = one (same x lastJulian) refl
     three true e k = month-over x r k (ltb-true (x .month) 12 e)
     three false e k = year-over x r k (ltb-false (x .month) 12 e)
 
-    not-last : same x lastJulian ≡ false → stampOf x ≡ lastJulianStamp → ⊥
+    not-last : sameDate x lastJulian ≡ false → stampOf x ≡ lastJulianStamp → ⊥
     not-last n s =
         let o = october x (r .fits) (omega arith) (omega arith) in
         let q : x ≡ lastJulian = same-date (o .0) (o .1 .0) (omega arith) in
         false≢true (sym n ∙ rw q (same-self lastJulian))
 
-    two : (t : Bool) → ltb (x .day) (monthDays (x .year) (x .month)) ≡ t → same x lastJulian ≡ false → Follows x (cond t (record { year = x .year; month = x .month; day = x .day + 1 }) (cond (ltb (x .month) 12) month-on year-on))
+    two : (t : Bool) → ltb (x .day) (monthDays (x .year) (x .month)) ≡ t → sameDate x lastJulian ≡ false → Follows x (cond t (record { year = x .year; month = x .month; day = x .day + 1 }) (cond (ltb (x .month) 12) month-on year-on))
     two true e n = in-the-month x r (not-last n) (ltb-true (x .day) (monthDays (x .year) (x .month)) e)
     two false e n = three (ltb (x .month) 12) refl (ltb-false (x .day) (monthDays (x .year) (x .month)) e)
 
-    one : (t : Bool) → same x lastJulian ≡ t → Follows x (cond t firstGregorian (cond (ltb (x .day) (monthDays (x .year) (x .month))) (record { year = x .year; month = x .month; day = x .day + 1 }) (cond (ltb (x .month) 12) month-on year-on)))
+    one : (t : Bool) → sameDate x lastJulian ≡ t → Follows x (cond t firstGregorian (cond (ltb (x .day) (monthDays (x .year) (x .month))) (record { year = x .year; month = x .month; day = x .day + 1 }) (cond (ltb (x .month) 12) month-on year-on)))
     one true e = over-the-gap x r (same-true x lastJulian e)
     one false e = two (ltb (x .day) (monthDays (x .year) (x .month))) refl e
 
 pub record DayIs (n : ℕ) (x : Date) : Type 0 where
   pub real : Real x
-  pub counted : serial x ≡ n + epochSerial
+  pub counted : serialOf x ≡ n + epochSerial
 
 -- day n's date is a date, and has day n's serial number
 pub date-counts : (n : ℕ) → DayIs n (dateOn n)
-unfolding dateOn serial before monthDays
+unfolding dateOn serialOf before monthDays
 date-counts zero =
     record {
       real = record { fits = record { from-one = lit≤ tt; to-twelve = lit≤ tt; first = lit≤ tt; final = lit≤ tt }; kept = λ k. absurd (omega arith) };
@@ -172,7 +172,7 @@ date-counts zero =
 date-counts (suc n) =
     let d = date-counts n in
     let f = next-counts (dateOn n) (d .real) in
-    record { real = f .real; counted = step (serial (dateOn n)) (serial (next (dateOn n))) n (f .counted) (d .counted) }
+    record { real = f .real; counted = step (serialOf (dateOn n)) (serialOf (next (dateOn n))) n (f .counted) (d .counted) }
   where
     step : (a b n : ℕ) → b ≡ a + 1 → a ≡ n + epochSerial → b ≡ suc n + epochSerial
     step a b n e f = omega arith

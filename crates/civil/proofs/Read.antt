@@ -8,20 +8,20 @@ use lib.Dec.{leb, ltb, eqb}
 use borrow.Author.Tests.{ltb-true, ltb-false, eqb-true, eqb-false, le-leb, lt-leb}
 use Rattle.civil.specs.declared.Date.{Date}
 use Rattle.civil.specs.Calendar.{dateOn}
-use Rattle.civil.specs.Serial.{place, yearStart, InYear, before, serial, epochSerial, gregorianSerial, lastJulianStamp, firstGregorianStamp}
+use Rattle.civil.specs.Serial.{place, yearStart, InYear, before, serialOf, epochSerial, gregorianSerial, lastJulianStamp, firstGregorianStamp}
 use Rattle.civil.proofs.Years.{later-year, one-year}
 use Rattle.civil.proofs.Months.{placeAt}
 use Rattle.civil.proofs.Dates.{Fits, Real, yearOf, dayOf, stampOf, placed, months, year-long}
 use Rattle.civil.proofs.Next.{same-date, calendar, keeps, DayIs, date-counts}
 
-serial-is : (x : Date) → serial x ≡ yearStart (calendar x) (yearOf x) + dayOf x
-unfolding serial
+serial-is : (x : Date) → serialOf x ≡ yearStart (calendar x) (yearOf x) + dayOf x
+unfolding serialOf
 serial-is x = refl
 
 module _ (x : Date) (r : Real x) where
   -- the serial number tells the calendar
-  tells-calendar : calendar x ≡ leb gregorianSerial (serial x)
-  unfolding serial
+  tells-calendar : calendar x ≡ leb gregorianSerial (serialOf x)
+  unfolding serialOf
   tells-calendar = go (calendar x) refl
     where
       long : dayOf x < 366
@@ -42,8 +42,8 @@ module _ (x : Date) (r : Real x) where
           sym (lt-leb gregorianSerial _ (early (yearStart false (yearOf x)) (yearOf x) (dayOf x) long k (later-year false (yearOf x) 1982 (omega arith))))
 
   -- the date lies in its year
-  in-year : InYear (calendar x) (serial x) (yearOf x)
-  unfolding serial
+  in-year : InYear (calendar x) (serialOf x) (yearOf x)
+  unfolding serialOf
   in-year = record { from = omega arith; until = go (eqb (x .month) 2) refl }
     where
       go : (t : Bool) → eqb (x .month) 2 ≡ t → yearStart (calendar x) (yearOf x) + dayOf x < yearStart (calendar x) (yearOf x + 1)
@@ -79,31 +79,31 @@ read-back x f = subst (Read x (yearOf x) (dayOf x)) (sym (placed x f .found)) pa
         }
 
 -- a date's serial number, the year that it falls in and the day in that year give the date
-pub read-serial : (x : Date) → Real x → (u n : ℕ) → InYear (leb gregorianSerial (serial x)) (serial x) u → n ≡ serial x - yearStart (leb gregorianSerial (serial x)) u → Read x u n (placeAt n)
+pub read-serial : (x : Date) → Real x → (u n : ℕ) → InYear (leb gregorianSerial (serialOf x)) (serialOf x) u → n ≡ serialOf x - yearStart (leb gregorianSerial (serialOf x)) u → Read x u n (placeAt n)
 read-serial x r u n i e =
     let g = tells-calendar x r in
-    let y : u ≡ yearOf x = one-year (calendar x) (serial x) u (yearOf x) (subst (λ (b : Bool). InYear b (serial x) u) (sym g) i) (in-year x r) in
-    let d : n ≡ dayOf x = e ∙ ap (λ (b : Bool). serial x - yearStart b u) (sym g) ∙ ap (λ (v : ℕ). serial x - yearStart (calendar x) v) y ∙ less _ (dayOf x) (serial x) is in
+    let y : u ≡ yearOf x = one-year (calendar x) (serialOf x) u (yearOf x) (subst (λ (b : Bool). InYear b (serialOf x) u) (sym g) i) (in-year x r) in
+    let d : n ≡ dayOf x = e ∙ ap (λ (b : Bool). serialOf x - yearStart b u) (sym g) ∙ ap (λ (v : ℕ). serialOf x - yearStart (calendar x) v) y ∙ less _ (dayOf x) (serialOf x) is in
     rw (y, d) (read-back x (r .fits))
   where
-    is : serial x ≡ yearStart (calendar x) (yearOf x) + dayOf x
+    is : serialOf x ≡ yearStart (calendar x) (yearOf x) + dayOf x
     is = serial-is x
 
     less : (a b s : ℕ) → s ≡ a + b → s - a ≡ b
     less a b s e = omega arith
 
 -- one date for a serial number
-one-date : (x z : Date) → Real x → Real z → serial x ≡ serial z → x ≡ z
+one-date : (x z : Date) → Real x → Real z → serialOf x ≡ serialOf z → x ≡ z
 one-date x z r q e = go (ltb (placeAt n) 10) refl
   where
     g : Bool
-    g = leb gregorianSerial (serial x)
+    g = leb gregorianSerial (serialOf x)
 
     n : ℕ
-    n = serial x - yearStart g (yearOf x)
+    n = serialOf x - yearStart g (yearOf x)
 
-    i : InYear g (serial x) (yearOf x)
-    i = subst (λ (b : Bool). InYear b (serial x) (yearOf x)) (tells-calendar x r) (in-year x r)
+    i : InYear g (serialOf x) (yearOf x)
+    i = subst (λ (b : Bool). InYear b (serialOf x) (yearOf x)) (tells-calendar x r) (in-year x r)
 
     a : Read x (yearOf x) n (placeAt n)
     a = read-serial x r (yearOf x) n i refl

@@ -8,12 +8,12 @@ use Rattle.days.specs.Refusals.{accepted, noSuchDate, outOfRange}
 use Rattle.days.specs.Days.{lastDay, theNumber, noNumber}
 use Rattle.civil.specs.declared.Date.{Date}
 use Rattle.civil.specs.declared.DateAnswer.{DateAnswer}
-use Rattle.civil.specs.Calendar.{dateExists, same, next, epoch, dateOn}
+use Rattle.civil.specs.Calendar.{dateExists, sameDate, next, epoch, dateOn}
 
 -- the day whose date is x, sought date by date over k days: from day n on, whose date is z
 unfoldable pub dayFrom : ℕ → ℕ → Date → Date → NumberAnswer
 dayFrom zero n z x = noNumber outOfRange
-dayFrom (suc k) n z x = cond (same z x) (theNumber n) (dayFrom k (suc n) (next z) x)
+dayFrom (suc k) n z x = cond (sameDate z x) (theNumber n) (dayFrom k (suc n) (next z) x)
 
 -- sought over all days from day 0 on
 unfoldable pub dayOfDate : Date → NumberAnswer

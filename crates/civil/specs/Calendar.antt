@@ -37,13 +37,13 @@ lost x = eqb (x .year) 1582 && eqb (x .month) 10 && ltb 4 (x .day) && ltb (x .da
 unfoldable pub dateExists : Date → Bool
 dateExists x = leb 1 (x .month) && leb (x .month) 12 && leb 1 (x .day) && leb (x .day) (monthDays (x .year) (x .month)) && not (lost x)
 
-unfoldable pub same : Date → Date → Bool
-same x z = eqb (x .year) (z .year) && eqb (x .month) (z .month) && eqb (x .day) (z .day)
+unfoldable pub sameDate : Date → Date → Bool
+sameDate x z = eqb (x .year) (z .year) && eqb (x .month) (z .month) && eqb (x .day) (z .day)
 
 -- the date after
 unfoldable pub next : Date → Date
 next x =
-    cond (same x lastJulian) firstGregorian
+    cond (sameDate x lastJulian) firstGregorian
     (cond (ltb (x .day) (monthDays (x .year) (x .month))) (record { year = x .year; month = x .month; day = x .day + 1 })
     (cond (ltb (x .month) 12) (record { year = x .year; month = x .month + 1; day = 1 })
     (record { year = x .year + 1; month = 1; day = 1 })))

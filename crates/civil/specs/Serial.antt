@@ -4,6 +4,7 @@ use mathlib.Core.Bool.{Bool, true, false, cond}
 use Prim.Native.Nat.{ℕ, zero, suc, _+_, _*_, _-_, _/_, _%_, _≤_, _<_}
 use lib.Dec.{ltb}
 use lib.ListN.{getD}
+use Rattle.days.specs.Days.{epochJulianDay}
 use Rattle.civil.specs.declared.Date.{Date}
 use Rattle.civil.specs.Calendar.{lengths}
 
@@ -52,12 +53,16 @@ gregorian y n = ltb lastJulianStamp (stamp y n)
 abbrev pub serialIn : ℕ → ℕ → ℕ
 serialIn y n = yearStart (gregorian y n) y + n
 
-unfoldable pub serial : Date → ℕ
-serial x = serialIn (marchYear (x .year) (x .month)) (yearDay (x .month) (x .day))
+unfoldable pub serialOf : Date → ℕ
+serialOf x = serialIn (marchYear (x .year) (x .month)) (yearDay (x .month) (x .day))
+
+-- the Julian Day Number of serial number 0
+abbrev pub serialStart : ℕ
+serialStart = 1575018
 
 -- the serial numbers of day 0 and of 15 October 1582
 abbrev pub epochSerial : ℕ
-epochSerial = 701298
+epochSerial = epochJulianDay - serialStart
 
 abbrev pub gregorianSerial : ℕ
 gregorianSerial = 724143

@@ -1,10 +1,10 @@
 // Civil dates: Julian up to 4 October 1582, Gregorian from 15 October 1582.
 ghost use mathlib.Core.Path.{_≡_};
 ghost use Prim.Native.Nat.{_+_, _*_, _≤_, _<_};
-ghost use Rattle.days.specs.Days.{lastDay, noNumber};
+ghost use Rattle.days.specs.Days.{lastDay};
 ghost use Rattle.civil.specs.Calendar.{leap, monthDays, lost, dateExists, dateOn};
 ghost use Rattle.civil.specs.Answers.{dayOfDate, dateOfDay};
-ghost use Rattle.civil.specs.Serial.{place, marchYear, yearStart, before, gregorian, InYear, serial as serialOf};
+ghost use Rattle.civil.specs.Serial.{place, marchYear, yearStart, before, gregorian, InYear, serialOf};
 use days::Day;
 use days::NumberAnswer;
 use days::refusal;
@@ -33,8 +33,11 @@ const NO_DATE: DateAnswer = DateAnswer {
 // The days from 1 March to each month, March first: running sums.
 const BEFORE: [u32; 12] = [0, 31, 61, 92, 122, 153, 184, 214, 245, 275, 306, 337];
 
-// The serial numbers of day 0 and of 15 October 1582: days since the March 400 Julian years before that of year 0.
-const EPOCH_SERIAL: u64 = 701298;
+// Serial numbers count the days from 1 March 400 Julian years before that of year 0: the Julian Day Number of serial number 0.
+const SERIAL_START: u32 = 1575018;
+
+// The serial numbers of day 0, from the epoch's Julian Day Number and number, and of 15 October 1582.
+const DAY_0_SERIAL: u64 = (Day::EPOCH_JULIAN_DAY - Day::FIRST - SERIAL_START) as u64;
 
 const GREGORIAN_SERIAL: u64 = 724143;
 
@@ -157,34 +160,22 @@ fn serial(date: Date) -> u64
     year_start(is_gregorian(year, day), year) + day
 }
 
-fn refused(number: u32) -> NumberAnswer
-    ensures { λ r. ⌜ r ≡ noNumber number ⌝ }
-{
-    NumberAnswer {
-        refusal: number,
-        number: 0,
-    }
-}
-
 // The day of a date.
 pub fn day_of(date: Date) -> NumberAnswer
     ensures { λ r. ⌜ r ≡ dayOfDate date ⌝ }
 {
     if !exists(date) {
-        return refused(refusal::NO_SUCH_DATE);
+        return NumberAnswer::refused(refusal::NO_SUCH_DATE);
     }
     let serial = serial(date);
-    if EPOCH_SERIAL <= serial {
-        let number = serial - EPOCH_SERIAL;
+    if DAY_0_SERIAL <= serial {
+        let number = serial - DAY_0_SERIAL;
         if number <= Day::LAST as u64 {
             let number = number as u32;
-            return NumberAnswer {
-                refusal: refusal::NONE,
-                number,
-            };
+            return NumberAnswer::accepted(number);
         }
     }
-    refused(refusal::OUT_OF_RANGE)
+    NumberAnswer::OUT_OF_RANGE
 }
 
 // The year, from March on, that a serial number falls in: by centuries of 36524 or 36525 days, and years of 365 or 366.
@@ -207,7 +198,7 @@ fn date_at(day: u32) -> Date
     requires { ⌜ day ≤ lastDay ⌝ }
     ensures { λ r. ⌜ r ≡ dateOn day ⌝ }
 {
-    let serial = day as u64 + EPOCH_SERIAL;
+    let serial = day as u64 + DAY_0_SERIAL;
     let gregorian = GREGORIAN_SERIAL <= serial;
     let year = year_of(gregorian, serial);
     let within = serial - year_start(gregorian, year);

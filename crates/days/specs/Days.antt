@@ -1,4 +1,4 @@
--- The days 0 to 401,599 as pairs of a cycle C and a day A within it: day = 4016 × C + A.
+-- The days 0 to 401,599 as pairs of paper 01's cycle C and day A within it: day = 4016 × C + A.
 -- Assumes nothing.
 use mathlib.Core.Bool.{Bool, cond, _&&_}
 use Prim.Native.Nat.{ℕ, _+_, _*_, _/_, _%_}
@@ -73,6 +73,6 @@ weekdayAt d = weekdayOn (count d)
 abbrev pub weekdayOf : Day → NumberAnswer
 weekdayOf d = onDay weekdayAt d
 
--- the step: the day whose number is one more, which the last day has not
+-- paper 01's step: the day whose number is one more, which the last day has not
 unfoldable pub nextOf : Day → DayAnswer
 nextOf d = cond (inRange d) (dayOf (count d + 1)) (noDay outOfRange)

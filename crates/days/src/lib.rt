@@ -2,7 +2,7 @@
 pub mod refusal;
 
 ghost use mathlib.Core.Path.{_≡_};
-ghost use Rattle.days.specs.Days.{inRange, dayOf, pairOf, numberOf, julianDayOf, weekdayOf, nextOf};
+ghost use Rattle.days.specs.Days.{theNumber, noNumber, inRange, dayOf, pairOf, numberOf, julianDayOf, weekdayOf, nextOf};
 
 // A cycle from 0 to 99 and a day within it from 0 to 4015: paper 01's pair (C, A). Any other pair is refused wherever it is taken.
 pub struct Day {
@@ -34,6 +34,19 @@ impl NumberAnswer {
         refusal: refusal::OUT_OF_RANGE,
         number: 0,
     };
+
+    pub fn accepted(number: u32) -> NumberAnswer
+        ensures { λ r. ⌜ r ≡ theNumber number ⌝ }
+    {
+        let refusal = refusal::NONE;
+        NumberAnswer { refusal, number }
+    }
+
+    pub fn refused(refusal: u32) -> NumberAnswer
+        ensures { λ r. ⌜ r ≡ noNumber refusal ⌝ }
+    {
+        NumberAnswer { refusal, number: 0 }
+    }
 }
 
 impl Day {
@@ -48,6 +61,9 @@ impl Day {
     pub const CYCLE_DAYS: u32 = 4016;
 
     pub const CYCLES: u32 = 100;
+
+    // The numbers of the epoch and of the last day.
+    pub const FIRST: u32 = Day::CYCLE_DAYS * Day::EPOCH.cycle + Day::EPOCH.within;
 
     pub const LAST: u32 = Day::CYCLES * Day::CYCLE_DAYS - 1;
 
@@ -110,11 +126,9 @@ impl Day {
     {
         if self.in_range() {
             let day = self.number();
-            let number = Day::EPOCH_JULIAN_DAY + day.number;
-            NumberAnswer {
-                refusal: refusal::NONE,
-                number,
-            }
+            let since = day.number - Day::FIRST;
+            let number = Day::EPOCH_JULIAN_DAY + since;
+            NumberAnswer::accepted(number)
         } else {
             NumberAnswer::OUT_OF_RANGE
         }

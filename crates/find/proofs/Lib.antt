@@ -1,1 +1,6 @@
-pub mod Room
+mod Bounds
+mod Next
+mod Heading
+mod Printing
+mod Parting
+mod Pages

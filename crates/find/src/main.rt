@@ -1,167 +1,162 @@
 // Reads a page from standard input and prints the days that it can be.
-use days::Day;
 use days::refusal;
-use libc::STDERR_FILENO;
 use libc::STDOUT_FILENO;
 use page::PageRead;
 use query::Query;
-use search::Found;
-use text::Line;
-ghost use Prim.Native.Nat.{_+_, _*_, _≤_};
-ghost use lib.ListN.{length};
 ghost use mathlib.Core.Path.{_≡_};
+ghost use mathlib.Core.Bool.{true};
+ghost use Prim.Native.Nat.{_+_, _<_, _≤_};
+ghost use lib.ListN.{length};
 ghost use Rattle.query.specs.Query.{refusalOf};
+ghost use Rattle.text.specs.Lines.{lineCapacity};
+ghost use Rattle.catalogue.specs.Pieces.{listedFrom, dayLines};
+ghost use Rattle.catalogue.specs.Each.{EachFits};
+ghost use Rattle.search.specs.Spans.{between};
+ghost use Rattle.find.specs.Output.{headingOf, outputOf, NextBytes};
 
-// A page has fewer bytes.
-const INPUT: usize = 4194304;
+// A page has fewer bytes. With the list and the buffer a run keeps within 1 MiB of stack.
+const INPUT: usize = 524288;
 
-// An entry of four bytes for every day there is.
-const LIST: usize = 4 * (Day::LAST as usize + 1);
+// The span is searched part by part, with an entry of the list for each day of a part.
+const PART: u32 = 16384;
 
-// Output on its way: how much of the buffer is used, and whether all before it was written.
-struct Output {
-    used: usize,
+const LIST: usize = entries::ENTRY_BYTES * PART as usize;
+
+const BUFFER: usize = 65536;
+
+// How far the output is written: how many bytes of it, and whether no write failed.
+struct Written {
+    bytes: usize,
     whole: bool,
 }
 
-// After a write that failed no more is written.
-fn flush(output: Output, buffer: &[u8]) -> Output
-    requires { ⌜ output .used ≤ length (now buffer) ⌝ }
-    ensures { λ r. ⌜ r .used ≡ 0 ⌝ }
+// The only way to write to standard output what was found. By what it requires these are the output's bytes behind those written before.
+fn write_next(query: Query, before: usize, bytes: &[u8]) -> bool
+    requires { ⌜ NextBytes query before (now bytes) ⌝ }
 {
-    let used = output.used;
-    let mut whole = output.whole;
-    if whole {
-        whole = io::write_all(STDOUT_FILENO, &buffer[..used]);
-    }
-    Output { used: 0, whole }
+    io::write_all(STDOUT_FILENO, bytes)
 }
 
-// The line's bytes behind the first `used` ones; the answer is how many are used then.
-fn put_line(buffer: &mut [u8], used: usize, line: Line) -> usize
-    requires { ⌜ used + 128 ≤ length (now buffer) ⌝ }
-    ensures { λ r. ⌜ r ≤ length (now (buffer .exit)) ⌝ }
+fn print_heading(query: Query, buffer: &mut [u8]) -> Written
+    requires { ⌜ (refusalOf query ≡ 0) × (lineCapacity ≤ length (now buffer)) ⌝ }
+    ensures { λ r. ⌜ r .bytes ≡ length (headingOf query) ⌝ }
 {
-    let bytes = line.bytes;
-    let len = line.len;
-    let mut i = 0;
-    while i < Line::CAPACITY {
-        if len <= i {
-            return used + i;
+    let found = search::measure(query);
+    let piece = catalogue::heading(found.length, found.examined, buffer);
+    let bytes = piece.bytes;
+    let whole = write_next(query, 0, &buffer[..bytes]);
+    Written { bytes, whole }
+}
+
+// The lines of a list's days, piece by piece.
+fn print_days(query: Query, before: usize, days: &[u8], buffer: &mut [u8]) -> Written
+    requires { ⌜ (refusalOf query ≡ 0) × EachFits (length (now buffer)) (listedFrom (now days) 0) × NextBytes query before (dayLines (listedFrom (now days) 0)) ⌝ }
+    ensures { λ r. ⌜ (r .whole ≡ true → r .bytes ≡ before + length (dayLines (listedFrom (now (days .entry)) 0))) ⌝ }
+{
+    let mut written = before;
+    let mut next: usize = 0;
+    loop {
+        let piece = catalogue::lines(days, next, buffer);
+        let bytes = piece.bytes;
+        if bytes == 0 {
+            return Written {
+                bytes: written,
+                whole: true,
+            };
         }
-        buffer[used + i] = bytes[i];
-        i += 1;
-    }
-    used + i
-}
-
-// Room for a line: a buffer that has none is written first.
-fn with_room(output: Output, buffer: &[u8]) -> Output
-    requires { ⌜ (output .used ≤ length (now buffer)) × (128 ≤ length (now buffer)) ⌝ }
-    ensures { λ r. ⌜ r .used + 128 ≤ length (now (buffer .entry)) ⌝ }
-{
-    if buffer.len() - output.used < Line::CAPACITY {
-        return flush(output, buffer);
-    }
-    output
-}
-
-fn print(output: Output, buffer: &mut [u8], line: Line) -> Output
-    requires { ⌜ (output .used ≤ length (now buffer)) × (128 ≤ length (now buffer)) ⌝ }
-    ensures { λ r. ⌜ r .used ≤ length (now (buffer .exit)) ⌝ }
-{
-    let ready = with_room(output, buffer);
-    let used = put_line(buffer, ready.used, line);
-    Output {
-        used,
-        whole: ready.whole,
+        if !write_next(query, written, &buffer[..bytes]) {
+            return Written {
+                bytes: written,
+                whole: false,
+            };
+        }
+        written += bytes;
+        next = piece.next;
     }
 }
 
-// Whether all was written.
-fn print_days(found: Found, list: &[u8], buffer: &mut [u8]) -> bool
-    requires { ⌜ (4 * found .length ≤ length (now list)) × (128 ≤ length (now buffer)) ⌝ }
+// The last day of the part that begins with a day.
+fn part_end(first: u32, last: u32) -> u32
+    requires { ⌜ first ≤ last ⌝ }
+    ensures { λ r. ⌜ (first ≤ r) × (r ≤ last) × (r < first + 16384) ⌝ }
 {
-    let start = Output {
-        used: 0,
+    if last - first < PART {
+        return last;
+    }
+    first + (PART - 1)
+}
+
+fn part_of(query: Query, first: u32, last: u32) -> Query
+    ensures { λ r. ⌜ r ≡ between query first last ⌝ }
+{
+    let mut part = query;
+    part.first = first;
+    part.last = last;
+    part
+}
+
+// The lines of the matching days, part by part of the span.
+fn print_parts(query: Query, before: usize, list: &mut [u8], buffer: &mut [u8]) -> Written
+    requires { ⌜ (refusalOf query ≡ 0) × (before ≡ length (headingOf query)) ⌝ }
+    requires { ⌜ (65536 ≤ length (now list)) × (lineCapacity ≤ length (now buffer)) ⌝ }
+    ensures { λ r. ⌜ (r .whole ≡ true → r .bytes ≡ length (outputOf query)) ⌝ }
+{
+    let mut written = before;
+    let mut first = query.first;
+    while first <= query.last {
+        let last = part_end(first, query.last);
+        let found = search::search(part_of(query, first, last), list);
+        let end = entries::ENTRY_BYTES * found.length as usize;
+        let printed = print_days(query, written, &list[..end], buffer);
+        if !printed.whole {
+            return printed;
+        }
+        written = printed.bytes;
+        first = last + 1;
+    }
+    Written {
+        bytes: written,
         whole: true,
-    };
-    let mut output = print(
-        start,
-        buffer,
-        catalogue::heading(found.length, found.examined),
-    );
-    let count = found.length as usize;
-    let mut i = 0;
-    while i < count {
-        let day = search::entry_at(list, i);
-        output = print(output, buffer, catalogue::day_line(day));
-        i += 1;
-    }
-    let end = flush(output, buffer);
-    end.whole
-}
-
-fn write_line(fd: i32, line: Line) {
-    let mut bytes = [0u8; Line::CAPACITY];
-    let len = put_line(&mut bytes, 0, line);
-    io::write_all(fd, &bytes[..len]);
-}
-
-// Why a line is at fault.
-fn with_reason(line: Line, refused: u32, reason: u32) -> Line {
-    match reason {
-        page::UNKNOWN_WORD => line.text(b"no line begins with this word\n"),
-        page::MANY_VALUES => line.text(b"more values than any word has\n"),
-        page::BAD_VALUE => line.text(b"a value is missing, of another form, or one too many\n"),
-        page::STANDS_TWICE => line.text(b"this word stands already\n"),
-        page::NOT_ENDED => line.text(b"the last line has no newline\n"),
-        _ => with_refusal(line, refused),
     }
 }
 
-fn with_refusal(line: Line, refused: u32) -> Line {
-    match refused {
-        refusal::NO_SUCH_DATE => line.text(b"there is no such date\n"),
-        refusal::OUT_OF_RANGE => line.text(b"a day outside 0 to 401599\n"),
-        refusal::LAST_BEFORE_FIRST => line.text(b"the last day is before the first\n"),
-        _ => line.text(b"a value is out of range\n"),
-    }
-}
-
-fn refuse(read: PageRead) {
-    write_line(STDOUT_FILENO, sheet::refusal_line(read.refusal));
-    let mut number: u32 = 0;
-    if read.line <= INPUT {
-        number = read.line as u32;
-    }
-    let place = Line::empty().text(b"line ").number(number).text(b": ");
-    write_line(STDERR_FILENO, with_reason(place, read.refusal, read.reason));
-}
-
-// The list has an entry for every day there is, so the search refuses nothing.
-fn print_found(query: Query, list: &mut [u8])
-    requires { ⌜ (refusalOf query ≡ 0) × (1606400 ≤ length (now list)) ⌝ }
+// Where no write fails, all of the output is written.
+fn print_found(query: Query, list: &mut [u8], buffer: &mut [u8]) -> Written
+    requires { ⌜ (refusalOf query ≡ 0) × (65536 ≤ length (now list)) × (lineCapacity ≤ length (now buffer)) ⌝ }
+    ensures { λ r. ⌜ (r .whole ≡ true → r .bytes ≡ length (outputOf query)) ⌝ }
 {
-    let found = search::search(query, list);
-    let mut buffer = io::large_buffer();
-    if !print_days(found, list, &mut buffer) {
-        io::write_all(STDERR_FILENO, b"not all could be written\n");
+    let heading = print_heading(query, buffer);
+    if !heading.whole {
+        return heading;
     }
+    print_parts(query, heading.bytes, list, buffer)
 }
 
 fn find_days(query: Query)
     requires { ⌜ refusalOf query ≡ 0 ⌝ }
 {
     let mut list = [0u8; LIST];
-    print_found(query, &mut list);
+    let mut buffer = [0u8; BUFFER];
+    let written = print_found(query, &mut list, &mut buffer);
+    if !written.whole {
+        output::say(output::not_written());
+    }
 }
 
-fn read_and_find(input: &mut [u8]) {
+fn refuse(read: PageRead)
+    requires { ⌜ read .line < 4294967296 ⌝ }
+{
+    output::print(text::refusal_line(read.refusal));
+    output::say(messages::page_fault(read.line as u32, read.refusal, read.reason));
+}
+
+fn read_and_find(input: &mut [u8])
+    requires { ⌜ length (now input) ≤ 524288 ⌝ }
+{
     let n = input::read_input(input);
     if n == input.len() {
-        write_line(STDOUT_FILENO, sheet::refusal_line(refusal::BAD_INPUT));
-        io::write_all(STDERR_FILENO, b"the page is too long or cannot be read\n");
+        output::print(text::refusal_line(refusal::BAD_INPUT));
+        output::say(messages::unreadable_page());
         return;
     }
     let read = page::read(&input[..n]);

@@ -1,2 +1,3 @@
 pub mod OnNumbers
 pub mod Parts
+pub mod Laws

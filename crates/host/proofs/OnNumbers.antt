@@ -12,7 +12,7 @@ use Rattle.days.specs.Days.{cycles, lastDay, pairAt, inRange, onDay}
 use Rattle.days.proofs.Laws.{pair-in-range, given, refused}
 use Rattle.host.specs.Calls.{onNumber}
 
-pair-past-last : (n : ℕ) → lastDay < n → inRange (pairAt n) ≡ false
+pub pair-past-last : (n : ℕ) → lastDay < n → inRange (pairAt n) ≡ false
 unfolding inRange
 pair-past-last n h = let k : cycles ≤ pairAt n .cycle = omega arith in rw (le-ltb _ _ k)
 

@@ -4,7 +4,7 @@ use mathlib.Core.Path.{_≡_, ap}
 use Rattle.days.specs.declared.DayAnswer.{DayAnswer}
 use Rattle.days.specs.declared.NumberAnswer.{NumberAnswer}
 use Rattle.civil.specs.declared.DateAnswer.{DateAnswer}
-use Rattle.host.specs.Calls.{IsNumber, IsDay, IsDate}
+use Rattle.host.specs.Parts.{IsNumber, IsDay, IsDate}
 
 pub is-number : {found meant : NumberAnswer} → found ≡ meant → IsNumber found meant
 is-number e = record { refusal = ap (λ (a : NumberAnswer). a .refusal) e; number = ap (λ (a : NumberAnswer). a .number) e }

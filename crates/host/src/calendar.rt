@@ -9,11 +9,12 @@ ghost use mathlib.Core.Path.{_≡_};
 ghost use Rattle.days.specs.Days.{dayOf, numberOf, nextOf};
 ghost use Rattle.civil.specs.Answers.{dayOfDate, dateOfDay};
 ghost use Rattle.saka.specs.LunarDays.{lunarDay};
-ghost use Rattle.host.specs.Calls.{date as dateIs, pair as pairIs, lunarDate, IsNumber, IsDay, IsDate};
+ghost use Rattle.host.specs.Calls.{dateFrom, pairFrom, lunarDateFrom};
+ghost use Rattle.host.specs.Parts.{IsNumber, IsDay, IsDate};
 
 // The libraries' answers, said number by number, for the calls below.
 fn day_of_date(year: u32, month: u32, day: u32) -> NumberAnswer
-    ensures { λ r. ⌜ IsNumber r (dayOfDate (dateIs year month day)) ⌝ }
+    ensures { λ r. ⌜ IsNumber r (dayOfDate (dateFrom year month day)) ⌝ }
 {
     civil::day_of(Date { year, month, day })
 }
@@ -31,19 +32,19 @@ fn pair_of_day(day: u32) -> DayAnswer
 }
 
 fn day_of_pair(cycle: u32, within: u32) -> NumberAnswer
-    ensures { λ r. ⌜ IsNumber r (numberOf (pairIs cycle within)) ⌝ }
+    ensures { λ r. ⌜ IsNumber r (numberOf (pairFrom cycle within)) ⌝ }
 {
     Day { cycle, within }.number()
 }
 
 fn next_pair(cycle: u32, within: u32) -> DayAnswer
-    ensures { λ r. ⌜ IsDay r (nextOf (pairIs cycle within)) ⌝ }
+    ensures { λ r. ⌜ IsDay r (nextOf (pairFrom cycle within)) ⌝ }
 {
     Day { cycle, within }.next()
 }
 
 fn day_of_lunar_date(year: u32, months: u32, tithis: u32, weekday: u32) -> NumberAnswer
-    ensures { λ r. ⌜ IsNumber r (lunarDay (lunarDate year months tithis weekday)) ⌝ }
+    ensures { λ r. ⌜ IsNumber r (lunarDay (lunarDateFrom year months tithis weekday)) ⌝ }
 {
     saka::day_of(LunarDate {
         year,
@@ -55,14 +56,14 @@ fn day_of_lunar_date(year: u32, months: u32, tithis: u32, weekday: u32) -> Numbe
 
 #[no_mangle]
 pub extern "C" fn graha_date_result(year: u32, month: u32, day: u32) -> u32
-    ensures { λ r. ⌜ r ≡ dayOfDate (dateIs year month day) .refusal ⌝ }
+    ensures { λ r. ⌜ r ≡ dayOfDate (dateFrom year month day) .refusal ⌝ }
 {
     day_of_date(year, month, day).refusal
 }
 
 #[no_mangle]
 pub extern "C" fn graha_date_day(year: u32, month: u32, day: u32) -> u32
-    ensures { λ r. ⌜ r ≡ dayOfDate (dateIs year month day) .number ⌝ }
+    ensures { λ r. ⌜ r ≡ dayOfDate (dateFrom year month day) .number ⌝ }
 {
     day_of_date(year, month, day).number
 }
@@ -111,49 +112,49 @@ pub extern "C" fn graha_day_within(day: u32) -> u32
 
 #[no_mangle]
 pub extern "C" fn graha_pair_result(cycle: u32, within: u32) -> u32
-    ensures { λ r. ⌜ r ≡ numberOf (pairIs cycle within) .refusal ⌝ }
+    ensures { λ r. ⌜ r ≡ numberOf (pairFrom cycle within) .refusal ⌝ }
 {
     day_of_pair(cycle, within).refusal
 }
 
 #[no_mangle]
 pub extern "C" fn graha_pair_day(cycle: u32, within: u32) -> u32
-    ensures { λ r. ⌜ r ≡ numberOf (pairIs cycle within) .number ⌝ }
+    ensures { λ r. ⌜ r ≡ numberOf (pairFrom cycle within) .number ⌝ }
 {
     day_of_pair(cycle, within).number
 }
 
 #[no_mangle]
 pub extern "C" fn graha_next_result(cycle: u32, within: u32) -> u32
-    ensures { λ r. ⌜ r ≡ nextOf (pairIs cycle within) .refusal ⌝ }
+    ensures { λ r. ⌜ r ≡ nextOf (pairFrom cycle within) .refusal ⌝ }
 {
     next_pair(cycle, within).refusal
 }
 
 #[no_mangle]
 pub extern "C" fn graha_next_cycle(cycle: u32, within: u32) -> u32
-    ensures { λ r. ⌜ r ≡ nextOf (pairIs cycle within) .day .cycle ⌝ }
+    ensures { λ r. ⌜ r ≡ nextOf (pairFrom cycle within) .day .cycle ⌝ }
 {
     next_pair(cycle, within).day.cycle
 }
 
 #[no_mangle]
 pub extern "C" fn graha_next_within(cycle: u32, within: u32) -> u32
-    ensures { λ r. ⌜ r ≡ nextOf (pairIs cycle within) .day .within ⌝ }
+    ensures { λ r. ⌜ r ≡ nextOf (pairFrom cycle within) .day .within ⌝ }
 {
     next_pair(cycle, within).day.within
 }
 
 #[no_mangle]
 pub extern "C" fn graha_saka_result(year: u32, months: u32, tithis: u32, weekday: u32) -> u32
-    ensures { λ r. ⌜ r ≡ lunarDay (lunarDate year months tithis weekday) .refusal ⌝ }
+    ensures { λ r. ⌜ r ≡ lunarDay (lunarDateFrom year months tithis weekday) .refusal ⌝ }
 {
     day_of_lunar_date(year, months, tithis, weekday).refusal
 }
 
 #[no_mangle]
 pub extern "C" fn graha_saka_day(year: u32, months: u32, tithis: u32, weekday: u32) -> u32
-    ensures { λ r. ⌜ r ≡ lunarDay (lunarDate year months tithis weekday) .number ⌝ }
+    ensures { λ r. ⌜ r ≡ lunarDay (lunarDateFrom year months tithis weekday) .number ⌝ }
 {
     day_of_lunar_date(year, months, tithis, weekday).number
 }

@@ -1,4 +1,4 @@
-// What a day number gives: the weekday, mean and true longitudes in seconds of arc, and the panchanga elements. 0 where there is no such day.
+// The numbers of a day, by its number: the weekday, mean and true longitudes in seconds of arc, and the panchanga elements. 0 where there is no such day.
 use days::Day;
 use longitudes::Body;
 ghost use mathlib.Core.Path.{_≡_};

@@ -6,9 +6,11 @@ use search::Found;
 ghost use mathlib.Core.Path.{_≡_};
 ghost use Prim.Native.Nat.{_≤_};
 ghost use lib.ListN.{length};
+ghost use Rattle.entries.specs.Entries.{capacity};
 ghost use Rattle.search.specs.Days.{matchingDays, visitedDays, visitLimit};
-ghost use Rattle.search.specs.Search.{capacity, resultOf, told, listAfter};
-ghost use Rattle.host.specs.HostQuery.{hostQuery, HostMeasured};
+ghost use Rattle.search.specs.Search.{resultOf, unlessRefused, listAfter};
+ghost use Rattle.host.specs.HostQuery.{hostQuery};
+ghost use Rattle.host.specs.HostNumbers.{HostMeasured};
 
 fn query_of(first: u32, last: u32, start: u32, width: u32, weekday: u32) -> Query
     ensures { λ r. ⌜ r ≡ hostQuery first last start width weekday ⌝ }
@@ -61,7 +63,7 @@ pub extern "C" fn graha_search(
     search::search(query, list).refusal
 }
 
-// The two numbers that a search tells, whatever list it is lent.
+// The two numbers of a search, whatever list it is lent.
 fn measured(first: u32, last: u32, start: u32, width: u32, weekday: u32) -> Found
     ensures { λ r. ⌜ HostMeasured (hostQuery first last start width weekday) r ⌝ }
 {
@@ -77,7 +79,7 @@ pub extern "C" fn graha_search_length(
     width: u32,
     weekday: u32,
 ) -> u32
-    ensures { λ r. ⌜ r ≡ told (hostQuery first last start width weekday) (length (matchingDays (hostQuery first last start width weekday))) ⌝ }
+    ensures { λ r. ⌜ r ≡ unlessRefused (hostQuery first last start width weekday) (length (matchingDays (hostQuery first last start width weekday))) ⌝ }
 {
     measured(first, last, start, width, weekday).length
 }
@@ -91,7 +93,7 @@ pub extern "C" fn graha_search_looked(
     width: u32,
     weekday: u32,
 ) -> u32
-    ensures { λ r. ⌜ r ≡ told (hostQuery first last start width weekday) (length (visitedDays (hostQuery first last start width weekday))) ⌝ }
+    ensures { λ r. ⌜ r ≡ unlessRefused (hostQuery first last start width weekday) (length (visitedDays (hostQuery first last start width weekday))) ⌝ }
     ensures { λ r. ⌜ r ≤ visitLimit (hostQuery first last start width weekday) ⌝ }
 {
     measured(first, last, start, width, weekday).examined

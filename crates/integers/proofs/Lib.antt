@@ -1,3 +1,4 @@
 pub mod Less
 pub mod Floor
 pub mod Reduced
+pub mod RoundedUp

@@ -1,4 +1,4 @@
--- Numbers with a sign: the greatest whole number not above a quotient, and reduction by whole multiples.
+-- Whole numbers with a sign: rounding down, and reduction by whole multiples (paper 01's whole circles).
 -- Assumes nothing.
 use Prim.Native.Nat.{ℕ, suc, _-_, _/_, _%_}
 use lib.IntN.{ℤ, pos, negsuc}

@@ -3,3 +3,4 @@ pub mod Table
 pub mod Motions
 pub mod Sun
 pub mod Subtraction
+pub mod Node

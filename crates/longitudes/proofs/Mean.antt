@@ -19,7 +19,7 @@ abbrev pub backwards : ℤ → ℕ
 backwards (pos p) = 0
 backwards (negsuc p) = suc p
 
-pub record Fair (row : Row) : Type 0 where
+pub record RowInRange (row : Row) : Type 0 where
   pub start : row .K < circle
   pub amount : row .D ≤ circle
   pub divisor : 0 < row .q
@@ -49,7 +49,7 @@ by-sign : (K D : ℕ) (p : ℤ) (q C A : ℕ) → 0 < q → D ≤ circle → bac
 by-sign K D (pos p) q C A hq hd hp = moved K D (circle - D) (pos p) q C A p 0 p 0 hq (omega arith) (less-pos p) (omega arith)
 by-sign K D (negsuc p) q C A hq hd hp = moved K D (circle - D) (negsuc p) q C A 0 (suc p) (circle * q - suc p) 1 hq (omega arith) (omega arith) (omega arith)
 
-pub mean-in-naturals : (row : Row) (C A : ℕ) → Fair row → meanLongitude row C A ≡ (row .K + C * (circle - row .D) + A * forwards (row .p) (row .q) / row .q) % circle
+pub mean-in-naturals : (row : Row) (C A : ℕ) → RowInRange row → meanLongitude row C A ≡ (row .K + C * (circle - row .D) + A * forwards (row .p) (row .q) / row .q) % circle
 mean-in-naturals row C A f = by-sign (row .K) (row .D) (row .p) (row .q) C A (f .divisor) (f .amount) (f .back)
 
 pub mean-small : (row : Row) (C A : ℕ) → meanLongitude row C A < circle

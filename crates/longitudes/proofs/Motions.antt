@@ -12,8 +12,8 @@ use Rattle.days.specs.Days.{inRange}
 use Rattle.days.proofs.Laws.{in-range}
 use Rattle.longitudes.specs.declared.Motion.{Motion}
 use Rattle.longitudes.specs.Longitudes.{circle, Row, noRow, table, meanLongitude, longitudeAt}
-use Rattle.longitudes.proofs.Mean.{Fair, forwards, mean-in-naturals}
-use Rattle.longitudes.proofs.Table.{fair, at-map}
+use Rattle.longitudes.proofs.Mean.{RowInRange, forwards, mean-in-naturals}
+use Rattle.longitudes.proofs.Table.{row-in-range, at-map}
 
 abbrev motionOf : Row → Motion
 motionOf row = record { k = row .K; d = row .D; p = forwards (row .p) (row .q); q = row .q }
@@ -33,7 +33,7 @@ pub record Reckoned (m : Motion) (d : Day) (longitude : ℕ) : Type 0 where
   pub moved : d .within * m .p / m .q < 4016 * 100000000
   pub whole : (m .k + d .cycle * (circle - m .d) + d .within * m .p / m .q) % circle ≡ longitude
 
-of-row : (row : Row) (d : Day) → Fair row → inRange d ≡ true → Reckoned (motionOf row) d (meanLongitude row (d .cycle) (d .within))
+of-row : (row : Row) (d : Day) → RowInRange row → inRange d ≡ true → Reckoned (motionOf row) d (meanLongitude row (d .cycle) (d .within))
 of-row row d f e =
     let r = in-range d e in
     let m = motionOf row in
@@ -50,4 +50,4 @@ of-row row d f e =
 
 pub reckoned : (b : ℕ) (d : Day) → b < 9 → inRange d ≡ true → Reckoned (getD motions b none) d (longitudeAt b d)
 unfolding longitudeAt table
-reckoned b d h e = rw (at-map motionOf table b none noRow h) (of-row (getD table b noRow) d (fair b h) e)
+reckoned b d h e = rw (at-map motionOf table b none noRow h) (of-row (getD table b noRow) d (row-in-range b h) e)

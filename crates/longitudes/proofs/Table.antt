@@ -7,24 +7,24 @@ use native.Mathlib.Omega.{arith}
 use lib.ListN.{getD, length}
 use Rattle.days.specs.declared.Day.{Day}
 use Rattle.longitudes.specs.Longitudes.{circle, Row, noRow, table, meanLongitude, longitudeAt, longitudesAt}
-use Rattle.longitudes.proofs.Mean.{Fair, mean-small}
+use Rattle.longitudes.proofs.Mean.{RowInRange, mean-small}
 
-abbrev AllFair : List Row → Type 0
-AllFair [] = Unit {0}
-AllFair (row ∷ rows) = Fair row × AllFair rows
+abbrev AllInRange : List Row → Type 0
+AllInRange [] = Unit {0}
+AllInRange (row ∷ rows) = RowInRange row × AllInRange rows
 
-all-fair : AllFair table
+all-in-range : AllInRange table
 unfolding table
-all-fair = omega arith
+all-in-range = omega arith
 
-fair-at : (rows : List Row) → AllFair rows → (b : ℕ) → b < length rows → Fair (getD rows b noRow)
-fair-at [] f b h = absurd (omega arith)
-fair-at (row ∷ rows) f zero h = f .0
-fair-at (row ∷ rows) f (suc b) h = fair-at rows (f .1) b (omega arith)
+in-range-at : (rows : List Row) → AllInRange rows → (b : ℕ) → b < length rows → RowInRange (getD rows b noRow)
+in-range-at [] f b h = absurd (omega arith)
+in-range-at (row ∷ rows) f zero h = f .0
+in-range-at (row ∷ rows) f (suc b) h = in-range-at rows (f .1) b (omega arith)
 
-pub fair : (b : ℕ) → b < 9 → Fair (getD table b noRow)
+pub row-in-range : (b : ℕ) → b < 9 → RowInRange (getD table b noRow)
 unfolding table
-fair b h = fair-at table all-fair b h
+row-in-range b h = in-range-at table all-in-range b h
 
 pub at-map : {A B : Type 0} (f : A → B) (l : List A) (n : ℕ) (e : B) (d : A) → n < length l → getD (map f l) n e ≡ f (getD l n d)
 at-map f [] n e d h = absurd (omega arith)

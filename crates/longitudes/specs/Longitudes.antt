@@ -12,8 +12,8 @@ abbrev pub circle : ℕ
 circle = 1296000
 
 -- a less b, reduced by whole circles
-unfoldable pub difference : ℕ → ℕ → ℕ
-difference a b = reduced (pos a -ℤ pos b) circle
+unfoldable pub differenceOf : ℕ → ℕ → ℕ
+differenceOf a b = reduced (pos a -ℤ pos b) circle
 
 -- a row of the table: K the longitude at the epoch, D the cycle's amount, p / q the motion a day, p negative for a body that goes backwards
 pub record Row : Type 0 where

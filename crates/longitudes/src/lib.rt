@@ -6,7 +6,7 @@ ghost use mathlib.Core.Path.{_≡_};
 ghost use mathlib.Core.Bool.{true};
 ghost use Prim.Native.Nat.{_<_};
 ghost use Rattle.days.specs.Days.{inRange};
-ghost use Rattle.longitudes.specs.Longitudes.{difference as differenceOf, longitudeAt, longitudesAt};
+ghost use Rattle.longitudes.specs.Longitudes.{differenceOf, longitudeAt, longitudesAt};
 ghost use Rattle.longitudes.specs.Answers.{bodyNumber, longitudeOf, longitudesOf};
 
 // Seconds of arc in a circle.
@@ -146,10 +146,7 @@ pub fn mean_longitude(body: Body, day: Day) -> NumberAnswer
     if day.in_range() {
         let index = number(body);
         let seconds = longitude(index, day);
-        NumberAnswer {
-            refusal: refusal::NONE,
-            number: seconds,
-        }
+        NumberAnswer::accepted(seconds)
     } else {
         NumberAnswer::OUT_OF_RANGE
     }

@@ -3,15 +3,14 @@
 use mathlib.Core.Path.{_≡_, refl, ap, sym, _∙_}
 use mathlib.Core.Bool.{Bool, true, false, cond, _&&_, and-eq-true-iff, false≢true}
 use mathlib.Core.List.{List, [], _∷_}
-use Prim.Native.Nat.{ℕ, suc, _-_, _≤_, _<_}
+use Prim.Native.Nat.{ℕ, zero, suc, _-_, _≤_, _<_}
 use native.Mathlib.Omega.{arith}
 use borrow.Author.Tests.{eqb-true, eqb-false, leb-false, ltb-true, le-leb, lt-ltb}
 use lib.Dec.{eqb, leb, ltb}
 use lib.ListN.{length, getD, set, replicate, length-set}
 use lib.Seq.{getD-set-same, getD-set-other}
-use Rattle.civil.specs.declared.Date.{Date}
-use Rattle.civil.proofs.Laws.{Answered, no-such, day, outside, answered}
 use Rattle.days.specs.declared.NumberAnswer.{NumberAnswer}
+use Rattle.days.specs.Refusals.{badInput}
 use Rattle.days.specs.Days.{lastDay}
 use Rattle.query.specs.declared.Asked.{Asked}
 use Rattle.query.specs.declared.Arc.{Arc}
@@ -20,183 +19,144 @@ use Rattle.query.specs.Conditions.{askedInRange, arcAt, arcInRange, arcsInRange
 use Rattle.query.specs.Query.{refusalOf}
 use Rattle.query.proofs.Conditions.{arcs-true, arcs-false}
 use Rattle.query.proofs.Accepted.{accepted-by}
-use Rattle.text.specs.declared.NumberRead.{NumberRead}
-use Rattle.text.specs.Decimal.{isNumber, numberRead}
 use Rattle.text.specs.Lines.{newline}
-use Rattle.values.specs.declared.Three.{Three}
-use Rattle.values.specs.Names.{weekdayNames}
-use Rattle.values.specs.Values.{isRead, threeRead, sexagesimal, dateRead, numberOr, angleRead, dayRead, weekdayRead, noneRead}
-use Rattle.words.specs.Words.{dash, colon, pieces, placeIn}
+use Rattle.values.proofs.Refusals.{either, OfReading, number-refusal, day-refusal, angle-refusal, weekday-refusal, none-refusal}
+use Rattle.words.specs.Words.{pieces, placeIn}
 use Rattle.page.specs.Names.{keywords}
 use Rattle.page.specs.declared.LineRead.{LineRead}
 use Rattle.page.specs.declared.Fault.{Fault}
 use Rattle.page.specs.declared.Page.{Page}
-use Rattle.page.specs.Page.{spanAt, weekdayAt, tithiAt, nakshatraAt, yogaAt, arcsAt, conditions, everyDay, placed, rank, graver, firstValue, secondValue, unknownWord, manyValues, otherForm, blankLine, conditionRead, wordsRead, lineRead, graverFault, faulted, withLine, withLines, emptyPage, pageGives, pageRead}
-
--- what holds of both cases holds of the one picked
-either : {A : Type 0} (P : A → Type 0) (t : Bool) {x y : A} → P x → P y → P (cond t x y)
-either P true px py = px
-either P false px py = py
+use Rattle.page.specs.Page.{spanKeyword, weekdayKeyword, tithiKeyword, nakshatraKeyword, yogaKeyword, arcKeywords, keywordCount, everyDay, withCondition, rankOf, ranksBefore, firstRefusal, firstValue, secondValue, unknownWord, manyValues, malformedLine, blankLine, conditionRead, wordsRead, lineRead, firstFault, withFault, withLine, withLines, emptyPage, pageAnswer, pageRead}
 
 -- a refusal that has a rank
-abbrev Known : ℕ → Type 0
-Known r = (r ≡ 0 → ⊥) → rank r < 5
+abbrev Ranked : ℕ → Type 0
+Ranked r = (r ≡ 0 → ⊥) → rankOf r < 5
 
-known-0 : Known 0
-known-0 h = absurd (h refl)
+ranked-0 : Ranked 0
+ranked-0 h = absurd (h refl)
 
-known : Known 1 × Known 2 × Known 3 × Known 5 × Known 6
-unfolding rank
-known = (λ _. omega arith, λ _. omega arith, λ _. omega arith, λ _. omega arith, λ _. omega arith)
+ranked-all : Ranked 1 × Ranked 2 × Ranked 3 × Ranked 5 × Ranked 6
+unfolding rankOf
+ranked-all = (λ _. omega arith, λ _. omega arith, λ _. omega arith, λ _. omega arith, λ _. omega arith)
 
-abbrev KnownRead : NumberRead → Type 0
-KnownRead a = Known (a .refusal)
+-- the refusals of a value that is read
+ranked-read : (r : ℕ) → r ≤ badInput → Ranked r
+ranked-read zero h = ranked-0
+ranked-read (suc zero) h = ranked-all .0
+ranked-read (suc (suc zero)) h = ranked-all .1
+ranked-read (suc (suc (suc zero))) h = ranked-all .2
+ranked-read (suc (suc (suc (suc r)))) h = absurd (omega arith)
 
-number-known : (w : List ℕ) → KnownRead (numberRead w)
-unfolding numberRead
-number-known w = either KnownRead (isNumber w) known-0 (known .2)
-
-three-known : (t : Three) → KnownRead (sexagesimal t)
-unfolding sexagesimal
-three-known t = either KnownRead (t .read && (ltb (t .first) 1000 && (ltb (t .second) 60 && ltb (t .third) 60))) known-0 (known .2)
-
-answer-known : (x : Date) (a : NumberAnswer) → Answered x a → Known (a .refusal)
-answer-known x _ (no-such k) = known .0
-answer-known x _ (day n h e) = known-0
-answer-known x _ (outside k h) = known .1
-
-date-known : (t : Three) → KnownRead (dateRead t)
-unfolding dateRead
-date-known t = either KnownRead (t .read) (answer-known _ _ (answered _)) (known .2)
-
-number-or-known : (w : List ℕ) (other : NumberRead) → KnownRead other → KnownRead (numberOr w other)
-unfolding numberOr
-number-or-known w other k = either KnownRead (isRead (numberRead w)) (number-known w) k
-
-day-known : (w : List ℕ) → KnownRead (dayRead w)
-unfolding dayRead
-day-known w = number-or-known w _ (date-known (threeRead dash w))
-
-angle-known : (w : List ℕ) → KnownRead (angleRead w)
-unfolding angleRead
-angle-known w = number-or-known w _ (three-known (threeRead colon w))
-
-weekday-known : (w : List ℕ) → KnownRead (weekdayRead w)
-unfolding weekdayRead
-weekday-known w = either KnownRead (ltb (placeIn weekdayNames w) 7) known-0 (number-known w)
-
-none-known : (w : List ℕ) → KnownRead (noneRead w)
-unfolding noneRead
-none-known w = either KnownRead (eqb (length w) 0) known-0 (known .2)
-
-first-known : (k : ℕ) (w : List ℕ) → KnownRead (firstValue k w)
+first-value-read : (k : ℕ) (w : List ℕ) → OfReading (firstValue k w)
 unfolding firstValue
-first-known k w =
-    either KnownRead (eqb k spanAt) (day-known w)
-    (either KnownRead (eqb k weekdayAt) (weekday-known w) (either KnownRead (ltb k arcsAt) (number-known w) (angle-known w)))
+first-value-read k w =
+    either OfReading (eqb k spanKeyword) (day-refusal w)
+    (either OfReading (eqb k weekdayKeyword) (weekday-refusal w)
+    (either OfReading (ltb k arcKeywords) (number-refusal w) (angle-refusal w)))
 
-second-known : (k : ℕ) (w : List ℕ) → KnownRead (secondValue k w)
+second-value-read : (k : ℕ) (w : List ℕ) → OfReading (secondValue k w)
 unfolding secondValue
-second-known k w =
-    either KnownRead (eqb k spanAt) (day-known w) (either KnownRead (ltb k arcsAt) (none-known w) (angle-known w))
+second-value-read k w =
+    either OfReading (eqb k spanKeyword) (day-refusal w)
+    (either OfReading (ltb k arcKeywords) (none-refusal w) (angle-refusal w))
 
-graver-known : (r t : ℕ) → Known r → Known t → Known (graver r t)
-unfolding graver
-graver-known r t kr kt = either Known (ltb (rank t) (rank r)) kt kr
+first-refusal-ranked : (r t : ℕ) → Ranked r → Ranked t → Ranked (firstRefusal r t)
+unfolding firstRefusal ranksBefore
+first-refusal-ranked r t kr kt = either Ranked (ltb (rankOf t) (rankOf r)) kt kr
 
-query-known : (q : Query) → Known (refusalOf q)
+query-ranked : (q : Query) → Ranked (refusalOf q)
 unfolding refusalOf
-query-known q =
-    either Known (leb (q .first) lastDay && leb (q .last) lastDay)
-    (either Known (leb (q .first) (q .last)) (either Known (conditionsInRange q) known-0 (known .4)) (known .3))
-    (known .1)
+query-ranked q =
+    either Ranked (leb (q .first) lastDay && leb (q .last) lastDay)
+    (either Ranked (leb (q .first) (q .last)) (either Ranked (conditionsInRange q) ranked-0 (ranked-all .4)) (ranked-all .3))
+    (ranked-all .1)
 
 -- a line's refusal has a rank, and a condition that it does not refuse is not refused alone
-record Fair (l : LineRead) : Type 0 where
-  ranked : Known (l .refusal)
-  alone : l .refusal ≡ 0 → l .keyword < conditions → refusalOf (placed everyDay (l .keyword) (l .first) (l .second)) ≡ 0
+record SoundLine (l : LineRead) : Type 0 where
+  ranked : Ranked (l .refusal)
+  alone : l .refusal ≡ 0 → l .keyword < keywordCount → refusalOf (withCondition everyDay (l .keyword) (l .first) (l .second)) ≡ 0
 
-blank-fair : Fair blankLine
-blank-fair = record { ranked = known-0; alone = λ r k. absurd (omega arith) }
+blank-sound : SoundLine blankLine
+blank-sound = record { ranked = ranked-0; alone = λ r k. absurd (omega arith) }
 
-other-fair : (why : ℕ) → Fair (otherForm why)
-other-fair why = record { ranked = known .2; alone = λ r k. absurd (omega arith) }
+malformed-sound : (why : ℕ) → SoundLine (malformedLine why)
+malformed-sound why = record { ranked = ranked-all .2; alone = λ r k. absurd (omega arith) }
 
-condition-fair : (k : ℕ) (a b : NumberRead) → KnownRead a → KnownRead b → Fair (conditionRead k a b)
+condition-sound : (k : ℕ) (a b : NumberAnswer) → OfReading a → OfReading b → SoundLine (conditionRead k a b)
 unfolding conditionRead
-condition-fair k a b ka kb =
-    either Fair (eqb (graver (a .refusal) (b .refusal)) 3) (other-fair _)
-    (go (eqb (graver (a .refusal) (b .refusal)) 0) refl)
+condition-sound k a b ka kb =
+    either SoundLine (eqb (firstRefusal (a .refusal) (b .refusal)) 3) (malformed-sound _)
+    (go (eqb (firstRefusal (a .refusal) (b .refusal)) 0) refl)
   where
-    both : Known (graver (a .refusal) (b .refusal))
-    both = graver-known (a .refusal) (b .refusal) ka kb
+    both : Ranked (firstRefusal (a .refusal) (b .refusal))
+    both = first-refusal-ranked (a .refusal) (b .refusal) (ranked-read _ ka) (ranked-read _ kb)
 
     go :
         (t : Bool) →
-        eqb (graver (a .refusal) (b .refusal)) 0 ≡ t →
-        Fair
+        eqb (firstRefusal (a .refusal) (b .refusal)) 0 ≡ t →
+        SoundLine
         (cond t
-        (record { refusal = refusalOf (placed everyDay k (a .number) (b .number)); reason = 0; keyword = k; first = a .number; second = b .number })
-        (record { refusal = graver (a .refusal) (b .refusal); reason = 0; keyword = k; first = 0; second = 0 }))
-    go true e = record { ranked = query-known _; alone = λ r _. r }
+        (record { refusal = refusalOf (withCondition everyDay k (a .number) (b .number)); reason = 0; keyword = k; first = a .number; second = b .number })
+        (record { refusal = firstRefusal (a .refusal) (b .refusal); reason = 0; keyword = k; first = 0; second = 0 }))
+    go true e = record { ranked = query-ranked _; alone = λ r _. r }
     go false e = record { ranked = both; alone = λ r _. absurd (eqb-false _ _ e r) }
 
-words-fair : (name first second third : List ℕ) → Fair (wordsRead name first second third)
+words-sound : (name first second third : List ℕ) → SoundLine (wordsRead name first second third)
 unfolding wordsRead
-words-fair name first second third =
+words-sound name first second third =
     let k = placeIn keywords name in
-    either Fair (eqb (length name) 0) blank-fair
-    (either Fair (leb conditions k) (other-fair unknownWord)
-    (either Fair (eqb (length third) 0)
-    (condition-fair k (firstValue k first) (secondValue k second) (first-known k first) (second-known k second))
-    (other-fair manyValues)))
+    either SoundLine (eqb (length name) 0) blank-sound
+    (either SoundLine (leb keywordCount k) (malformed-sound unknownWord)
+    (either SoundLine (eqb (length third) 0)
+    (condition-sound k (firstValue k first) (secondValue k second) (first-value-read k first) (second-value-read k second))
+    (malformed-sound manyValues)))
 
-line-fair : (l : List ℕ) → Fair (lineRead l)
+line-read-sound : (l : List ℕ) → SoundLine (lineRead l)
 unfolding lineRead
-line-fair l = words-fair _ _ _ _
+line-read-sound l = words-sound _ _ _ _
 
-rank-most : (r : ℕ) → rank r ≤ 5
-unfolding rank
+rank-most : (r : ℕ) → rankOf r ≤ 5
+unfolding rankOf
 rank-most r =
     either (λ n. n ≤ 5) (eqb r 3) (omega arith)
     (either (λ n. n ≤ 5) (eqb r 1) (omega arith)
     (either (λ n. n ≤ 5) (eqb r 2) (omega arith)
     (either (λ n. n ≤ 5) (eqb r 5) (omega arith) (either (λ n. n ≤ 5) (eqb r 6) (omega arith) (omega arith)))))
 
-rank-accepted : rank 0 ≡ 5
-unfolding rank
+rank-accepted : rankOf 0 ≡ 5
+unfolding rankOf
 rank-accepted = refl
 
--- where the graver of two faults is none, neither is one
-graver-first : (f g : Fault) → graverFault f g .refusal ≡ 0 → f .refusal ≡ 0
-unfolding graverFault
-graver-first f g = go (ltb (rank (g .refusal)) (rank (f .refusal))) refl
+-- where the first of two faults is none, neither is one
+first-fault-former : (f g : Fault) → firstFault f g .refusal ≡ 0 → f .refusal ≡ 0
+unfolding firstFault ranksBefore
+first-fault-former f g = go (ltb (rankOf (g .refusal)) (rankOf (f .refusal))) refl
   where
     go :
         (t : Bool) →
-        ltb (rank (g .refusal)) (rank (f .refusal)) ≡ t →
+        ltb (rankOf (g .refusal)) (rankOf (f .refusal)) ≡ t →
         cond t g f .refusal ≡ 0 →
         f .refusal ≡ 0
     go true e r =
         absurd
-        (omega (arith, ltb-true (rank (g .refusal)) (rank (f .refusal)) e, rank-most (f .refusal), ap rank r ∙ rank-accepted))
+        (omega (arith, ltb-true (rankOf (g .refusal)) (rankOf (f .refusal)) e, rank-most (f .refusal), ap rankOf r ∙ rank-accepted))
     go false e r = r
 
-graver-second : (f g : Fault) → Known (g .refusal) → graverFault f g .refusal ≡ 0 → g .refusal ≡ 0
-unfolding graverFault
-graver-second f g k r = go (eqb (g .refusal) 0) refl
+first-fault-latter : (f g : Fault) → Ranked (g .refusal) → firstFault f g .refusal ≡ 0 → g .refusal ≡ 0
+unfolding firstFault ranksBefore
+first-fault-latter f g k r = go (eqb (g .refusal) 0) refl
   where
     none : f .refusal ≡ 0
-    none = graver-first f g r
+    none = first-fault-former f g r
 
     go : (t : Bool) → eqb (g .refusal) 0 ≡ t → g .refusal ≡ 0
     go true e = eqb-true (g .refusal) 0 e
     go false e =
         let lower = k (eqb-false (g .refusal) 0 e) in
-        rw (lt-ltb (rank (g .refusal)) (rank (f .refusal)) (omega (arith, ap rank none ∙ rank-accepted))) at r
+        rw (lt-ltb (rankOf (g .refusal)) (rankOf (f .refusal)) (omega (arith, ap rankOf none ∙ rank-accepted))) at r
 
 -- what makes a query not refused
-record Good (q : Query) : Type 0 where
+record Accepted (q : Query) : Type 0 where
   order : q .first ≤ q .last
   end : q .last ≤ lastDay
   weekday : askedInRange (q .weekday) 6 ≡ true
@@ -205,16 +165,16 @@ record Good (q : Query) : Type 0 where
   yoga : askedInRange (q .yoga) 26 ≡ true
   arcs : (body : ℕ) → body < 9 → arcInRange (arcAt (q .arcs) body) ≡ true
 
-arc-good : (arcs : List Arc) → arcsInRange arcs ≡ true → (body : ℕ) → body < 9 → arcInRange (arcAt arcs body) ≡ true
-arc-good arcs e body h = go (arcInRange (arcAt arcs body)) refl
+arc-in-range : (arcs : List Arc) → arcsInRange arcs ≡ true → (body : ℕ) → body < 9 → arcInRange (arcAt arcs body) ≡ true
+arc-in-range arcs e body h = go (arcInRange (arcAt arcs body)) refl
   where
     go : (t : Bool) → arcInRange (arcAt arcs body) ≡ t → arcInRange (arcAt arcs body) ≡ true
     go true f = f
     go false f = absurd (false≢true (sym (arcs-false arcs body h f) ∙ e))
 
-good-conditions : (q : Query) → q .first ≤ q .last → q .last ≤ lastDay → conditionsInRange q ≡ true → Good q
+accepted-conditions : (q : Query) → q .first ≤ q .last → q .last ≤ lastDay → conditionsInRange q ≡ true → Accepted q
 unfolding conditionsInRange
-good-conditions q order end e =
+accepted-conditions q order end e =
     let w = and-eq-true-iff _ _ .0 e in
     let t = and-eq-true-iff _ _ .0 (w .1) in
     let n = and-eq-true-iff _ _ .0 (t .1) in
@@ -226,15 +186,15 @@ good-conditions q order end e =
       tithi = t .0;
       nakshatra = n .0;
       yoga = y .0;
-      arcs = arc-good (q .arcs) (y .1);
+      arcs = arc-in-range (q .arcs) (y .1);
     }
 
-good-of : (q : Query) → refusalOf q ≡ 0 → Good q
-good-of q h = let by = accepted-by q h in good-conditions q (by .first) (by .last) (by .conditions)
+accepted-parts : (q : Query) → refusalOf q ≡ 0 → Accepted q
+accepted-parts q h = let by = accepted-by q h in accepted-conditions q (by .first) (by .last) (by .conditions)
 
-of-good : (q : Query) → Good q → refusalOf q ≡ 0
+parts-accepted : (q : Query) → Accepted q → refusalOf q ≡ 0
 unfolding refusalOf conditionsInRange
-of-good q g =
+parts-accepted q g =
     rw (
       le-leb (q .first) lastDay (omega (arith, g .order, g .end)),
       le-leb (q .last) lastDay (g .end),
@@ -290,76 +250,76 @@ asked a = record { given = true; value = a }
 -- conditions that are not refused alone are not refused together
 together :
     (q : Query) (k a b : ℕ) →
-    k < conditions →
+    k < keywordCount →
     length (q .arcs) ≡ 9 →
-    Good q →
-    Good (placed everyDay k a b) →
-    Good (placed q k a b)
-unfolding placed
+    Accepted q →
+    Accepted (withCondition everyDay k a b) →
+    Accepted (withCondition q k a b)
+unfolding withCondition
 together q k a b hk nine g alone =
     record {
-      order = span-picked (eqb k spanAt) a b (q .first) (q .last) (alone .order) (g .order);
-      end = picked (λ (n : ℕ). n ≤ lastDay) (eqb k spanAt) b lastDay (q .last) (alone .end) (g .end);
-      weekday = picked (λ (x : Asked). askedInRange x 6 ≡ true) (eqb k weekdayAt) (asked a) notAsked (q .weekday) (alone .weekday) (g .weekday);
-      tithi = picked (λ (x : Asked). askedInRange x 29 ≡ true) (eqb k tithiAt) (asked a) notAsked (q .tithi) (alone .tithi) (g .tithi);
-      nakshatra = picked (λ (x : Asked). askedInRange x 26 ≡ true) (eqb k nakshatraAt) (asked a) notAsked (q .nakshatra) (alone .nakshatra) (g .nakshatra);
-      yoga = picked (λ (x : Asked). askedInRange x 26 ≡ true) (eqb k yogaAt) (asked a) notAsked (q .yoga) (alone .yoga) (g .yoga);
-      arcs = arcs-picked (leb arcsAt k) (q .arcs) (k - arcsAt) _ (omega arith) nine (alone .arcs) (g .arcs);
+      order = span-picked (eqb k spanKeyword) a b (q .first) (q .last) (alone .order) (g .order);
+      end = picked (λ (n : ℕ). n ≤ lastDay) (eqb k spanKeyword) b lastDay (q .last) (alone .end) (g .end);
+      weekday = picked (λ (x : Asked). askedInRange x 6 ≡ true) (eqb k weekdayKeyword) (asked a) notAsked (q .weekday) (alone .weekday) (g .weekday);
+      tithi = picked (λ (x : Asked). askedInRange x 29 ≡ true) (eqb k tithiKeyword) (asked a) notAsked (q .tithi) (alone .tithi) (g .tithi);
+      nakshatra = picked (λ (x : Asked). askedInRange x 26 ≡ true) (eqb k nakshatraKeyword) (asked a) notAsked (q .nakshatra) (alone .nakshatra) (g .nakshatra);
+      yoga = picked (λ (x : Asked). askedInRange x 26 ≡ true) (eqb k yogaKeyword) (asked a) notAsked (q .yoga) (alone .yoga) (g .yoga);
+      arcs = arcs-picked (leb arcKeywords k) (q .arcs) (k - arcKeywords) _ (omega arith) nine (alone .arcs) (g .arcs);
     }
 
-nine-kept : (q : Query) (k a b : ℕ) → length (q .arcs) ≡ 9 → length (placed q k a b .arcs) ≡ 9
-unfolding placed
+nine-kept : (q : Query) (k a b : ℕ) → length (q .arcs) ≡ 9 → length (withCondition q k a b .arcs) ≡ 9
+unfolding withCondition
 nine-kept q k a b nine =
-    either (λ (arcs : List Arc). length arcs ≡ 9) (leb arcsAt k) (length-set (q .arcs) (k - arcsAt) _ ∙ nine) nine
+    either (λ (arcs : List Arc). length arcs ≡ 9) (leb arcKeywords k) (length-set (q .arcs) (k - arcKeywords) _ ∙ nine) nine
 
 -- a page without a fault has a query that is not refused
-record Sound (p : Page) : Type 0 where
+record SoundPage (p : Page) : Type 0 where
   nine : length (p .query .arcs) ≡ 9
-  good : p .fault .refusal ≡ 0 → Good (p .query)
+  accepted : p .fault .refusal ≡ 0 → Accepted (p .query)
 
-faulted-sound : (p : Page) (f : Fault) → Sound p → Sound (faulted p f)
-faulted-sound p f s = record { nine = s .nine; good = λ r. s .good (graver-first (p .fault) f r) }
+with-fault-sound : (p : Page) (f : Fault) → SoundPage p → SoundPage (withFault p f)
+with-fault-sound p f s = record { nine = s .nine; accepted = λ r. s .accepted (first-fault-former (p .fault) f r) }
 
-line-sound : (p : Page) (n : ℕ) (l : LineRead) → Sound p → Fair l → Sound (withLine p n l)
+line-sound : (p : Page) (n : ℕ) (l : LineRead) → SoundPage p → SoundLine l → SoundPage (withLine p n l)
 unfolding withLine
-line-sound p n l s fair = go (leb conditions (l .keyword)) refl
+line-sound p n l s sound = go (leb keywordCount (l .keyword)) refl
   where
     f : Fault
     f = record { refusal = l .refusal; reason = l .reason; line = n }
 
-    new : l .keyword < conditions → Sound (record { fault = graverFault (p .fault) f; stands = set (p .stands) (l .keyword) true; query = placed (p .query) (l .keyword) (l .first) (l .second) })
+    new : l .keyword < keywordCount → SoundPage (record { fault = firstFault (p .fault) f; present = set (p .present) (l .keyword) true; query = withCondition (p .query) (l .keyword) (l .first) (l .second) })
     new h =
         record {
           nine = nine-kept (p .query) (l .keyword) (l .first) (l .second) (s .nine);
-          good = λ r.
-              together (p .query) (l .keyword) (l .first) (l .second) h (s .nine) (s .good (graver-first (p .fault) f r))
-              (good-of _ (fair .alone (graver-second (p .fault) f (fair .ranked) r) h));
+          accepted = λ r.
+              together (p .query) (l .keyword) (l .first) (l .second) h (s .nine) (s .accepted (first-fault-former (p .fault) f r))
+              (accepted-parts _ (sound .alone (first-fault-latter (p .fault) f (sound .ranked) r) h));
         }
 
-    go : (t : Bool) → leb conditions (l .keyword) ≡ t → Sound (withLine p n l)
-    go true e = rw e (faulted-sound p f s)
-    go false e = rw e (either Sound (getD (p .stands) (l .keyword) false) (faulted-sound p _ s) (new (leb-false conditions (l .keyword) e)))
+    go : (t : Bool) → leb keywordCount (l .keyword) ≡ t → SoundPage (withLine p n l)
+    go true e = rw e (with-fault-sound p f s)
+    go false e = rw e (either SoundPage (getD (p .present) (l .keyword) false) (with-fault-sound p _ s) (new (leb-false keywordCount (l .keyword) e)))
 
-lines-sound : (p : Page) (n : ℕ) (ls : List (List ℕ)) → Sound p → Sound (withLines p n ls)
+lines-sound : (p : Page) (n : ℕ) (ls : List (List ℕ)) → SoundPage p → SoundPage (withLines p n ls)
 unfolding withLines
 lines-sound p n [] s = s
-lines-sound p n (l ∷ []) s = either Sound (eqb (length l) 0) s (faulted-sound p _ s)
-lines-sound p n (l ∷ m ∷ ms) s = lines-sound (withLine p n (lineRead l)) (suc n) (m ∷ ms) (line-sound p n (lineRead l) s (line-fair l))
+lines-sound p n (l ∷ []) s = either SoundPage (eqb (length l) 0) s (with-fault-sound p _ s)
+lines-sound p n (l ∷ m ∷ ms) s = lines-sound (withLine p n (lineRead l)) (suc n) (m ∷ ms) (line-sound p n (lineRead l) s (line-read-sound l))
 
 every-accepted : refusalOf everyDay ≡ 0
 unfolding refusalOf conditionsInRange askedInRange arcsInRange arcInRange
 every-accepted = refl
 
-empty-sound : Sound emptyPage
-empty-sound = record { nine = refl; good = λ _. good-of everyDay every-accepted }
+empty-sound : SoundPage emptyPage
+empty-sound = record { nine = refl; accepted = λ _. accepted-parts everyDay every-accepted }
 
 pub accepted-page : (text : List ℕ) → pageRead text .refusal ≡ 0 → refusalOf (pageRead text .query) ≡ 0
-unfolding pageRead pageGives
+unfolding pageRead pageAnswer
 accepted-page text = go (withLines emptyPage 1 (pieces newline text)) (lines-sound emptyPage 1 (pieces newline text) empty-sound)
   where
-    go : (p : Page) → Sound p → pageGives p .refusal ≡ 0 → refusalOf (pageGives p .query) ≡ 0
+    go : (p : Page) → SoundPage p → pageAnswer p .refusal ≡ 0 → refusalOf (pageAnswer p .query) ≡ 0
     go p s = fault (eqb (p .fault .refusal) 0) refl
       where
-        fault : (t : Bool) → eqb (p .fault .refusal) 0 ≡ t → pageGives p .refusal ≡ 0 → refusalOf (pageGives p .query) ≡ 0
-        fault true e r = rw e (of-good (p .query) (s .good (eqb-true (p .fault .refusal) 0 e)))
+        fault : (t : Bool) → eqb (p .fault .refusal) 0 ≡ t → pageAnswer p .refusal ≡ 0 → refusalOf (pageAnswer p .query) ≡ 0
+        fault true e r = rw e (parts-accepted (p .query) (s .accepted (eqb-true (p .fault .refusal) 0 e)))
         fault false e r = absurd (eqb-false (p .fault .refusal) 0 e (rw e at r))

@@ -4,12 +4,12 @@ use mathlib.Core.List.{List}
 use Prim.Native.Nat.{ℕ, _≤_, _<_}
 use borrow.Author.Tests.{eq-eqb, ne-eqb, le-leb, lt-leb}
 use lib.ListN.{length}
-use Rattle.text.specs.declared.NumberRead.{NumberRead}
+use Rattle.days.specs.declared.NumberAnswer.{NumberAnswer}
 use Rattle.words.specs.Words.{hash, upTo, firstWord, afterWord, placeIn}
 use Rattle.page.specs.Names.{keywords}
-use Rattle.page.specs.Page.{conditions, firstValue, secondValue, unknownWord, manyValues, otherForm, blankLine, conditionRead, wordsRead, lineRead}
+use Rattle.page.specs.Page.{keywordCount, firstValue, secondValue, unknownWord, manyValues, malformedLine, blankLine, conditionRead, wordsRead, lineRead}
 
--- the words, each found behind the one before
+-- the words, each found after the one before
 pub words-are :
     (l body name values others rest first second third : List ℕ) →
     body ≡ upTo hash l →
@@ -30,23 +30,23 @@ module _ (name first second third : List ℕ) where
   words-blank h = rw (eq-eqb (length name) 0 h)
 
   module _ (k : ℕ) (some : length name ≡ 0 → ⊥) (ek : k ≡ placeIn keywords name) where
-    pub words-unknown : conditions ≤ k → otherForm unknownWord ≡ wordsRead name first second third
+    pub words-unknown : keywordCount ≤ k → malformedLine unknownWord ≡ wordsRead name first second third
     unfolding wordsRead
-    words-unknown h = rw (ne-eqb (length name) 0 some, ← ek, le-leb conditions k h)
+    words-unknown h = rw (ne-eqb (length name) 0 some, ← ek, le-leb keywordCount k h)
 
-    pub words-many : k < conditions → (length third ≡ 0 → ⊥) → otherForm manyValues ≡ wordsRead name first second third
+    pub words-many : k < keywordCount → (length third ≡ 0 → ⊥) → malformedLine manyValues ≡ wordsRead name first second third
     unfolding wordsRead
-    words-many h more = rw (ne-eqb (length name) 0 some, ← ek, lt-leb conditions k h, ne-eqb (length third) 0 more)
+    words-many h more = rw (ne-eqb (length name) 0 some, ← ek, lt-leb keywordCount k h, ne-eqb (length third) 0 more)
 
     pub words-condition :
-        k < conditions →
+        k < keywordCount →
         length third ≡ 0 →
         conditionRead k (firstValue k first) (secondValue k second) ≡ wordsRead name first second third
     unfolding wordsRead
-    words-condition h none = rw (ne-eqb (length name) 0 some, ← ek, lt-leb conditions k h, eq-eqb (length third) 0 none)
+    words-condition h none = rw (ne-eqb (length name) 0 some, ← ek, lt-leb keywordCount k h, eq-eqb (length third) 0 none)
 
 pub values-are :
-    (k : ℕ) (first second : List ℕ) (a b : NumberRead) →
+    (k : ℕ) (first second : List ℕ) (a b : NumberAnswer) →
     a ≡ firstValue k first →
     b ≡ secondValue k second →
     conditionRead k a b ≡ conditionRead k (firstValue k first) (secondValue k second)

@@ -2,3 +2,4 @@ pub mod Grammar
 pub mod Reading
 pub mod Accepted
 pub mod Worked
+pub mod LineNumbers

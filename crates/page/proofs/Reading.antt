@@ -1,4 +1,4 @@
--- What holds along the loop over a page's lines: the lines ahead, put on the page so far, give the page meant.
+-- What holds along the loop over a page's lines: the lines ahead, put on the page so far, make the page meant.
 -- Assumes nothing.
 use mathlib.Core.Path.{_≡_, refl, ap, sym, _∙_}
 use mathlib.Core.Bool.{false}
@@ -9,12 +9,12 @@ use native.Mathlib.Numerals.{add-one}
 use borrow.Author.Tests.{ne-eqb}
 use lib.ListN.{length}
 use Rattle.text.specs.Lines.{newline}
-use Rattle.words.specs.Words.{run, upTo, behind, pieces}
+use Rattle.words.specs.Words.{runLength, upTo, afterFirst, pieces}
 use Rattle.words.proofs.Runs.{run-le}
-use Rattle.words.proofs.Pieces.{pieces-first, pieces-last, pieces-more, behind-shorter}
+use Rattle.words.proofs.Pieces.{pieces-first, pieces-last, pieces-more, after-shorter}
 use Rattle.days.specs.Refusals.{badInput}
 use Rattle.page.specs.declared.Page.{Page}
-use Rattle.page.specs.Page.{notEnded, lineRead, faulted, withLine, withLines, emptyPage, pageGives, pageRead}
+use Rattle.page.specs.Page.{notEnded, lineRead, withFault, withLine, withLines, emptyPage, pageAnswer, pageRead}
 
 lines-more :
     (p : Page) (n : ℕ) (l text : List ℕ) →
@@ -29,7 +29,7 @@ lines-last p n = refl
 lines-not-ended :
     (p : Page) (n : ℕ) (l : List ℕ) →
     (length l ≡ 0 → ⊥) →
-    withLines p n (l ∷ []) ≡ faulted p (record { refusal = badInput; reason = notEnded; line = n })
+    withLines p n (l ∷ []) ≡ withFault p (record { refusal = badInput; reason = notEnded; line = n })
 unfolding withLines
 lines-not-ended p n l h = rw (ne-eqb (length l) 0 h)
 
@@ -46,31 +46,31 @@ pub reading-start : (text : List ℕ) → Reading text emptyPage 1 text
 reading-start text = record { ahead = refl; room = omega arith }
 
 module _ (text : List ℕ) (p : Page) (n : ℕ) (rest : List ℕ) (r : Reading text p n rest) where
-  pub reading-end : length rest ≡ 0 → pageGives p ≡ pageRead text
+  pub reading-end : length rest ≡ 0 → pageAnswer p ≡ pageRead text
   unfolding pageRead pieces
   reading-end none =
-      ap pageGives
+      ap pageAnswer
       (sym (lines-last p n) ∙ ap (λ s. withLines p n (pieces newline s)) (sym (empty rest none)) ∙ r .ahead)
 
   pub reading-not-ended :
       0 < length rest →
-      run false newline rest ≡ length rest →
-      pageGives (faulted p (record { refusal = badInput; reason = notEnded; line = n })) ≡ pageRead text
+      runLength false newline rest ≡ length rest →
+      pageAnswer (withFault p (record { refusal = badInput; reason = notEnded; line = n })) ≡ pageRead text
   unfolding pageRead
   reading-not-ended some whole =
-      ap pageGives
+      ap pageAnswer
       (sym (lines-not-ended p n rest (λ z. omega arith)) ∙ ap (withLines p n) (sym (pieces-last newline rest whole)) ∙ r .ahead)
 
   pub reading-next :
-      (run false newline rest ≡ length rest → ⊥) →
-      Reading text (withLine p n (lineRead (upTo newline rest))) (n + 1) (behind newline rest)
+      (runLength false newline rest ≡ length rest → ⊥) →
+      Reading text (withLine p n (lineRead (upTo newline rest))) (n + 1) (afterFirst newline rest)
   reading-next more =
-      let some : run false newline rest < length rest = omega (arith, run-le false newline rest) in
+      let some : runLength false newline rest < length rest = omega (arith, run-le false newline rest) in
       record {
         ahead =
             rw add-one
-            (sym (lines-more p n (upTo newline rest) (behind newline rest))
+            (sym (lines-more p n (upTo newline rest) (afterFirst newline rest))
             ∙ ap (withLines p n) (sym (pieces-more newline rest some))
             ∙ r .ahead);
-        room = omega (arith, r .room, behind-shorter newline rest more);
+        room = omega (arith, r .room, after-shorter newline rest more);
       }

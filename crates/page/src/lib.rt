@@ -1,25 +1,25 @@
 // A torn almanac page as a person writes it down: the text of a page to a query.
 use days::Day;
+use days::NumberAnswer;
 use days::refusal;
 use query::Arc;
 use query::Asked;
 use query::Query;
-use text::NumberRead;
 use values::angle;
 use values::day;
 use values::nothing;
 use values::weekday;
+use words::after;
 use words::after_word;
-use words::behind;
 use words::first_word;
 use words::place_in;
-use words::run;
+use words::run_length;
 use words::up_to;
 ghost use mathlib.Core.Path.{_≡_};
 ghost use Prim.Native.Nat.{_<_};
-ghost use Rattle.page.specs.Page.{conditions, onlySpan, placed as placedIn, rank as rankOf, graver as graverOf, firstValue, secondValue, otherForm, conditionRead, lineRead, graverFault, faulted as faultedBy, withLine, emptyPage, pageGives, pageRead};
+ghost use Rattle.page.specs.Page.{keywordCount, onlySpan, withCondition, rankOf, ranksBefore, firstRefusal, firstValue, secondValue, malformedLine, conditionRead, lineRead, firstFault, withFault, withLine, emptyPage, pageAnswer, pageRead};
 
-// The words that a line begins with, each a condition, known by its place among them.
+// The words that a line begins with, each known by its place among them.
 const KEYWORDS: [u8; 88] =
     *b"span weekday tithi nakshatra yoga sun moon apogee node mars mercury jupiter venus saturn";
 
@@ -33,25 +33,25 @@ const NAKSHATRA: usize = 3;
 
 const YOGA: usize = 4;
 
-// The Sun's, and behind it the other bodies'.
+// The Sun's, and after it the other bodies'.
 const ARCS: usize = 5;
 
-// How many there are.
-const CONDITIONS: usize = 14;
+// How many keywords there are.
+const KEYWORD_COUNT: usize = 14;
 
-// Why a line has another form.
+// Why a line is malformed.
 pub const UNKNOWN_WORD: u32 = 1;
 
 pub const MANY_VALUES: u32 = 2;
 
 pub const BAD_VALUE: u32 = 3;
 
-pub const STANDS_TWICE: u32 = 4;
+pub const REPEATED_WORD: u32 = 4;
 
 pub const NOT_ENDED: u32 = 5;
 
-// What reading a page gives: the refusal's number, or 0, why a line has another form, the line at fault, counted from 1, and
-// the query. A refusal has a query of all zeros.
+// A page that has been read: the refusal's number, or 0, why a line is malformed, the line at fault, counted from 1, and the
+// query. A refusal has a query of all zeros.
 pub struct PageRead {
     pub refusal: u32,
     pub reason: u32,
@@ -59,7 +59,7 @@ pub struct PageRead {
     pub query: Query,
 }
 
-// A line that has been read: its condition and the condition's two values. A line without one has CONDITIONS.
+// A line that has been read: its keyword and two values. A line without a keyword has KEYWORD_COUNT.
 struct LineRead {
     refusal: u32,
     reason: u32,
@@ -75,10 +75,10 @@ struct Fault {
     line: usize,
 }
 
-// What the lines so far mean, and which words stand in them.
+// What the lines so far mean, and which keywords they have.
 struct Page {
     fault: Fault,
-    stands: [bool; CONDITIONS],
+    present: [bool; KEYWORD_COUNT],
     query: Query,
 }
 
@@ -96,9 +96,9 @@ fn only_span(first: u32, last: u32) -> Query
     }
 }
 
-fn placed(query: Query, keyword: usize, first: u32, second: u32) -> Query
-    requires { ⌜ keyword < conditions ⌝ }
-    ensures { λ r. ⌜ r ≡ placedIn query keyword first second ⌝ }
+fn with_condition(query: Query, keyword: usize, first: u32, second: u32) -> Query
+    requires { ⌜ keyword < keywordCount ⌝ }
+    ensures { λ r. ⌜ r ≡ withCondition query keyword first second ⌝ }
 {
     let mut query = query;
     let asked = Asked {
@@ -156,13 +156,19 @@ fn rank(number: u32) -> u32
     }
 }
 
-fn graver(one: u32, other: u32) -> u32
-    ensures { λ r. ⌜ r ≡ graverOf one other ⌝ }
+fn ranks_before(one: u32, other: u32) -> bool
+    ensures { λ r. ⌜ r ≡ ranksBefore one other ⌝ }
 {
-    if rank(other) < rank(one) { other } else { one }
+    rank(one) < rank(other)
 }
 
-fn first_value(keyword: usize, word: &[u8]) -> NumberRead
+fn first_refusal(one: u32, other: u32) -> u32
+    ensures { λ r. ⌜ r ≡ firstRefusal one other ⌝ }
+{
+    if ranks_before(other, one) { other } else { one }
+}
+
+fn first_value(keyword: usize, word: &[u8]) -> NumberAnswer
     ensures { λ r. ⌜ r ≡ firstValue keyword (now (word .entry)) ⌝ }
 {
     if keyword == SPAN {
@@ -177,7 +183,7 @@ fn first_value(keyword: usize, word: &[u8]) -> NumberRead
     angle(word)
 }
 
-fn second_value(keyword: usize, word: &[u8]) -> NumberRead
+fn second_value(keyword: usize, word: &[u8]) -> NumberAnswer
     ensures { λ r. ⌜ r ≡ secondValue keyword (now (word .entry)) ⌝ }
 {
     if keyword == SPAN {
@@ -189,25 +195,25 @@ fn second_value(keyword: usize, word: &[u8]) -> NumberRead
     angle(word)
 }
 
-fn other_form(reason: u32) -> LineRead
-    ensures { λ r. ⌜ r ≡ otherForm reason ⌝ }
+fn malformed(reason: u32) -> LineRead
+    ensures { λ r. ⌜ r ≡ malformedLine reason ⌝ }
 {
     LineRead {
         refusal: refusal::BAD_INPUT,
         reason,
-        keyword: CONDITIONS,
+        keyword: KEYWORD_COUNT,
         first: 0,
         second: 0,
     }
 }
 
-fn condition(keyword: usize, first: NumberRead, second: NumberRead) -> LineRead
-    requires { ⌜ keyword < conditions ⌝ }
+fn condition(keyword: usize, first: NumberAnswer, second: NumberAnswer) -> LineRead
+    requires { ⌜ keyword < keywordCount ⌝ }
     ensures { λ r. ⌜ r ≡ conditionRead keyword first second ⌝ }
 {
-    let refused = graver(first.refusal, second.refusal);
+    let refused = first_refusal(first.refusal, second.refusal);
     if refused == refusal::BAD_INPUT {
-        return other_form(BAD_VALUE);
+        return malformed(BAD_VALUE);
     }
     if refused != refusal::NONE {
         return LineRead {
@@ -219,7 +225,7 @@ fn condition(keyword: usize, first: NumberRead, second: NumberRead) -> LineRead
         };
     }
     let every = only_span(0, Day::LAST);
-    let alone = placed(every, keyword, first.number, second.number);
+    let alone = with_condition(every, keyword, first.number, second.number);
     let refused = alone.refusal();
     LineRead {
         refusal: refused,
@@ -239,41 +245,41 @@ fn read_line(line: &[u8]) -> LineRead
         return LineRead {
             refusal: refusal::NONE,
             reason: 0,
-            keyword: CONDITIONS,
+            keyword: KEYWORD_COUNT,
             first: 0,
             second: 0,
         };
     }
     let keyword = place_in(&KEYWORDS, name);
-    if CONDITIONS <= keyword {
-        return other_form(UNKNOWN_WORD);
+    if KEYWORD_COUNT <= keyword {
+        return malformed(UNKNOWN_WORD);
     }
     let values = after_word(body);
     let others = after_word(values);
     let more = first_word(after_word(others));
     if more.len() != 0 {
-        return other_form(MANY_VALUES);
+        return malformed(MANY_VALUES);
     }
     let first = first_value(keyword, first_word(values));
     let second = second_value(keyword, first_word(others));
     condition(keyword, first, second)
 }
 
-fn graver_fault(one: Fault, other: Fault) -> Fault
-    ensures { λ r. ⌜ r ≡ graverFault one other ⌝ }
+fn first_fault(one: Fault, other: Fault) -> Fault
+    ensures { λ r. ⌜ r ≡ firstFault one other ⌝ }
 {
-    if rank(other.refusal) < rank(one.refusal) {
+    if ranks_before(other.refusal, one.refusal) {
         other
     } else {
         one
     }
 }
 
-fn faulted(page: Page, fault: Fault) -> Page
-    ensures { λ r. ⌜ r ≡ faultedBy page fault ⌝ }
+fn with_fault(page: Page, fault: Fault) -> Page
+    ensures { λ r. ⌜ r ≡ withFault page fault ⌝ }
 {
     let mut page = page;
-    page.fault = graver_fault(page.fault, fault);
+    page.fault = first_fault(page.fault, fault);
     page
 }
 
@@ -286,26 +292,26 @@ fn with_line(page: Page, number: usize, line: LineRead) -> Page
         reason: line.reason,
         line: number,
     };
-    if CONDITIONS <= keyword {
-        return faulted(page, fault);
+    if KEYWORD_COUNT <= keyword {
+        return with_fault(page, fault);
     }
-    let mut stands = page.stands;
-    if stands[keyword] {
-        return faulted(
+    let mut present = page.present;
+    if present[keyword] {
+        return with_fault(
             page,
             Fault {
                 refusal: refusal::BAD_INPUT,
-                reason: STANDS_TWICE,
+                reason: REPEATED_WORD,
                 line: number,
             },
         );
     }
-    stands[keyword] = true;
-    let fault = graver_fault(page.fault, fault);
-    let query = placed(page.query, keyword, line.first, line.second);
+    present[keyword] = true;
+    let fault = first_fault(page.fault, fault);
+    let query = with_condition(page.query, keyword, line.first, line.second);
     Page {
         fault,
-        stands,
+        present,
         query,
     }
 }
@@ -320,13 +326,13 @@ fn empty_page() -> Page
             reason: 0,
             line: 0,
         },
-        stands: [false; CONDITIONS],
+        present: [false; KEYWORD_COUNT],
         query,
     }
 }
 
-fn gives(page: Page) -> PageRead
-    ensures { λ r. ⌜ r ≡ pageGives page ⌝ }
+fn page_answer(page: Page) -> PageRead
+    ensures { λ r. ⌜ r ≡ pageAnswer page ⌝ }
 {
     let fault = page.fault;
     if fault.refusal == refusal::NONE {
@@ -355,8 +361,8 @@ pub fn read(text: &[u8]) -> PageRead
     let mut number: usize = 1;
     let mut rest = text;
     while 0 < rest.len() {
-        if run(rest, b'\n', false) == rest.len() {
-            return gives(faulted(
+        if run_length(rest, b'\n', false) == rest.len() {
+            return page_answer(with_fault(
                 page,
                 Fault {
                     refusal: refusal::BAD_INPUT,
@@ -368,8 +374,8 @@ pub fn read(text: &[u8]) -> PageRead
         let line = read_line(up_to(rest, b'\n'));
         page = with_line(page, number, line);
         number += 1;
-        let others = behind(rest, b'\n');
+        let others = after(rest, b'\n');
         rest = others;
     }
-    gives(page)
+    page_answer(page)
 }

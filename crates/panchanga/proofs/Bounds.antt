@@ -1,14 +1,12 @@
 -- True longitudes are below a circle, and each element in its range: what is reduced is below what reduced it.
 -- Assumes nothing.
 use mathlib.Core.Bool.{Bool, true, false, cond}
-use mathlib.Core.Path.{_≡_, refl}
 use Prim.Native.Nat.{ℕ, _+_, _-_, _/_, _%_, _≤_, _<_}
 use native.Mathlib.Omega.{arith}
 use lib.Dec.{eqb, leb}
-use borrow.Author.Tests.{leb-false}
 use Rattle.days.specs.declared.Day.{Day}
 use Rattle.integers.proofs.Reduced.{reduced-small}
-use Rattle.longitudes.specs.Longitudes.{circle, difference}
+use Rattle.longitudes.specs.Longitudes.{circle, differenceOf}
 use Rattle.longitudes.proofs.Subtraction.{difference-small}
 use Rattle.panchanga.specs.TrueLongitudes.{corrected, trueLongitude}
 use Rattle.panchanga.specs.Elements.{karanaAfter}
@@ -38,15 +36,17 @@ pub yoga-small : (d : Day) → yogaAt d < 27
 unfolding yogaAt
 yoga-small d = omega arith
 
-after-range : (h : ℕ) → h < 60 → (1 ≤ karanaAfter h) × (karanaAfter h ≤ 11)
+after-range : (h : ℕ) → (1 ≤ karanaAfter h) × (karanaAfter h ≤ 11)
 unfolding karanaAfter
-after-range h k = go (eqb h 0) (leb h 56) refl refl
+after-range h = go (eqb h 0) (leb h 56) (eqb h 57) (eqb h 58)
   where
-    go : (t u : Bool) → eqb h 0 ≡ t → leb h 56 ≡ u → (1 ≤ cond t 11 (cond u ((h - 1) % 7 + 1) (h - 49))) × (cond t 11 (cond u ((h - 1) % 7 + 1) (h - 49)) ≤ 11)
-    go true u e f = omega arith
-    go false true e f = omega arith
-    go false false e f = omega (arith, leb-false h 56 f)
+    go : (t u v w : Bool) → (1 ≤ cond t 11 (cond u ((h - 1) % 7 + 1) (cond v 8 (cond w 9 10)))) × (cond t 11 (cond u ((h - 1) % 7 + 1) (cond v 8 (cond w 9 10))) ≤ 11)
+    go true u v w = omega arith
+    go false true v w = omega arith
+    go false false true w = omega arith
+    go false false false true = omega arith
+    go false false false false = omega arith
 
 pub karana-range : (d : Day) → (1 ≤ karanaAt d) × (karanaAt d ≤ 11)
 unfolding karanaAt
-karana-range d = after-range (difference (trueMoonAt d) (trueSunAt d) / 21600) (omega (arith, difference-small (trueMoonAt d) (trueSunAt d)))
+karana-range d = after-range (differenceOf (trueMoonAt d) (trueSunAt d) / 21600)

@@ -9,7 +9,7 @@ use lib.IntN.{pos, _+ℤ_}
 use borrow.Author.Tests.{le-leb, lt-leb}
 use Rattle.integers.proofs.Less.{less-pos}
 use Rattle.integers.proofs.Reduced.{less-reduced}
-use Rattle.longitudes.specs.Longitudes.{circle, difference}
+use Rattle.longitudes.specs.Longitudes.{circle, differenceOf}
 use Rattle.longitudes.proofs.Subtraction.{difference-law}
 use Rattle.panchanga.specs.TrueLongitudes.{bhuja, bhujaProduct, signed, corrected}
 
@@ -20,7 +20,7 @@ added mean x size h =
     (less-reduced (pos mean +ℤ pos size) (mean + size) 0 (mean + size) circle 0 (omega arith) (less-pos (mean + size)) (omega arith))
 
 pub subtracted : (mean x size : ℕ) → 648000 < x → size ≤ circle → corrected mean x size ≡ (mean + circle - size) % circle
-unfolding corrected signed difference
+unfolding corrected signed differenceOf
 subtracted mean x size h k = rw (lt-leb x 648000 h) (difference-law mean size k)
 
 -- Q of an anomaly in the half circle that it is in: the same for s and what is left of the half

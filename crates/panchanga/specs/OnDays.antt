@@ -1,4 +1,4 @@
--- True longitudes and panchanga elements of a day, and what is handed back of them.
+-- True longitudes and panchanga elements of a day (paper 01's true places and limbs), and what is handed back of them.
 -- Assumes nothing.
 use mathlib.Core.Bool.{cond}
 use Prim.Native.Nat.{ℕ}

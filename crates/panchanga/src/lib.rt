@@ -7,7 +7,7 @@ use longitudes::CIRCLE;
 ghost use mathlib.Core.Path.{_≡_};
 ghost use mathlib.Core.Bool.{true};
 ghost use Prim.Native.Nat.{_<_, _≤_};
-ghost use Rattle.days.specs.Days.{inRange, theNumber};
+ghost use Rattle.days.specs.Days.{inRange};
 ghost use Rattle.longitudes.specs.Longitudes.{longitudeAt};
 ghost use Rattle.longitudes.specs.Answers.{bodyNumber};
 ghost use Rattle.panchanga.specs.TrueLongitudes.{bhuja, bhujaProduct, equation, corrected, trueLongitude};
@@ -79,12 +79,13 @@ fn true_longitude(scale: u64, divisor: u64, apogee: u32, mean: u32) -> u32
     correct(mean, anomaly, size)
 }
 
+// The remainder changes nothing: it tells the compiler that what follows is below a circle, which spares divisions.
 fn mean_on(body: Body, day: Day) -> u32
     requires { ⌜ inRange day ≡ true ⌝ }
     ensures { λ r. ⌜ (r ≡ longitudeAt (bodyNumber body) day) × (r < 1296000) ⌝ }
 {
     let mean = longitudes::mean_longitude(body, day);
-    mean.number
+    mean.number % CIRCLE
 }
 
 fn sun_on(day: Day) -> u32
@@ -124,6 +125,7 @@ fn yoga_of(sun: u32, moon: u32) -> u32
 }
 
 fn karana_after(halves: u32) -> u32
+    requires { ⌜ halves < 60 ⌝ }
     ensures { λ r. ⌜ r ≡ karanaAfter halves ⌝ }
 {
     if halves == 0 {
@@ -173,20 +175,11 @@ pub fn of_day(day: Day) -> Panchanga
     }
 }
 
-fn told(number: u32) -> NumberAnswer
-    ensures { λ r. ⌜ r ≡ theNumber number ⌝ }
-{
-    NumberAnswer {
-        refusal: refusal::NONE,
-        number,
-    }
-}
-
 pub fn true_sun(day: Day) -> NumberAnswer
     ensures { λ r. ⌜ r ≡ trueSunOf day ⌝ }
 {
     if day.in_range() {
-        told(sun_on(day))
+        NumberAnswer::accepted(sun_on(day))
     } else {
         NumberAnswer::OUT_OF_RANGE
     }
@@ -196,7 +189,7 @@ pub fn true_moon(day: Day) -> NumberAnswer
     ensures { λ r. ⌜ r ≡ trueMoonOf day ⌝ }
 {
     if day.in_range() {
-        told(moon_on(day))
+        NumberAnswer::accepted(moon_on(day))
     } else {
         NumberAnswer::OUT_OF_RANGE
     }
@@ -206,7 +199,7 @@ pub fn tithi(day: Day) -> NumberAnswer
     ensures { λ r. ⌜ r ≡ tithiOf day ⌝ }
 {
     if day.in_range() {
-        told(tithi_of(sun_on(day), moon_on(day)))
+        NumberAnswer::accepted(tithi_of(sun_on(day), moon_on(day)))
     } else {
         NumberAnswer::OUT_OF_RANGE
     }
@@ -216,7 +209,7 @@ pub fn nakshatra(day: Day) -> NumberAnswer
     ensures { λ r. ⌜ r ≡ nakshatraOf day ⌝ }
 {
     if day.in_range() {
-        told(nakshatra_of(moon_on(day)))
+        NumberAnswer::accepted(nakshatra_of(moon_on(day)))
     } else {
         NumberAnswer::OUT_OF_RANGE
     }
@@ -226,7 +219,7 @@ pub fn yoga(day: Day) -> NumberAnswer
     ensures { λ r. ⌜ r ≡ yogaOf day ⌝ }
 {
     if day.in_range() {
-        told(yoga_of(sun_on(day), moon_on(day)))
+        NumberAnswer::accepted(yoga_of(sun_on(day), moon_on(day)))
     } else {
         NumberAnswer::OUT_OF_RANGE
     }
@@ -236,7 +229,7 @@ pub fn karana(day: Day) -> NumberAnswer
     ensures { λ r. ⌜ r ≡ karanaOf day ⌝ }
 {
     if day.in_range() {
-        told(karana_of(sun_on(day), moon_on(day)))
+        NumberAnswer::accepted(karana_of(sun_on(day), moon_on(day)))
     } else {
         NumberAnswer::OUT_OF_RANGE
     }

@@ -7,13 +7,9 @@ use native.Mathlib.Omega.{arith}
 use lib.Dec.{leb}
 use borrow.Author.Tests.{leb-true, le-leb}
 use Rattle.days.specs.Days.{lastDay}
-use Rattle.query.specs.declared.Arc.{Arc}
 use Rattle.query.specs.declared.Query.{Query}
-use Rattle.query.specs.Conditions.{arcAt, askedInRange, arcInRange, arcsInRange, conditionsInRange}
-use Rattle.query.specs.Query.{refusalOf}
-
-abbrev pub sunArc : Query → Arc
-sunArc q = arcAt (q .arcs) 0
+use Rattle.query.specs.Conditions.{askedInRange, arcInRange, arcsInRange, conditionsInRange}
+use Rattle.query.specs.Query.{sunArc, refusalOf}
 
 and-right : (a b : Bool) → (a && b) ≡ true → b ≡ true
 and-right true b e = e

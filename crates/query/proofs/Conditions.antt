@@ -1,37 +1,66 @@
--- A test of each of the nine bodies, by its outcomes; and a day's conditions from the outcomes of their tests, case by case.
+-- A test of each of the bodies, by its outcomes; and a day's conditions from the outcomes of their tests, case by case.
 -- Assumes nothing.
-use mathlib.Core.Path.{_≡_, sym, ap, _∙_}
-use mathlib.Core.Bool.{Bool, true, false, not, _&&_, and-true, and-false}
+use mathlib.Core.Path.{_≡_, refl, sym, _∙_}
+use mathlib.Core.Bool.{Bool, true, false, not, _||_, and-true, and-false, or-true, true≢false}
 use mathlib.Core.List.{List}
-use Prim.Native.Nat.{ℕ, zero, suc, _<_}
+use Prim.Native.Nat.{ℕ, zero, suc, _≤_, _<_}
 use native.Mathlib.Omega.{arith}
 use lib.Dec.{lit<}
 use borrow.Author.Tests.{not-true}
 use Rattle.days.specs.declared.Day.{Day}
-use Rattle.days.specs.Days.{inRange, pairAt, weekdayOn}
-use Rattle.longitudes.specs.Longitudes.{longitudeAt}
+use Rattle.days.specs.Days.{lastDay, inRange, pairAt, weekdayOn}
+use Rattle.days.proofs.Laws.{pair-in-range}
 use Rattle.panchanga.specs.declared.Panchanga.{Panchanga}
 use Rattle.panchanga.specs.OnDays.{tithiAt, nakshatraAt, yogaAt, panchangaOf}
 use Rattle.query.specs.declared.Arc.{Arc}
 use Rattle.query.specs.declared.Query.{Query}
-use Rattle.query.specs.Conditions.{eachBody, meets, within, arcAt, arcInRange, arcsInRange, arcsMet, elementsMet, AsksNoMore}
-use Rattle.query.specs.Query.{sunInArc, matches}
+use Rattle.query.specs.Conditions.{eachOther, someOther, eachBody, meets, inArc, arcAt, arcInRange, arcsInRange, arcMet, arcsMet, otherArcsMet, elementsMet, othersMet, otherArcsGiven, asksMore}
+use Rattle.query.specs.Query.{conditionsMet}
+
+neither : (a b : Bool) → (a || b) ≡ false → (a ≡ false) × (b ≡ false)
+neither true b e = absurd (true≢false e)
+neither false b e = (refl, e)
 
 pub each-true : (p : ℕ → Bool) → ((k : ℕ) → k < 9 → p k ≡ true) → eachBody p ≡ true
 each-true p h =
     rw (h 0 (lit< tt), h 1 (lit< tt), h 2 (lit< tt), h 3 (lit< tt), h 4 (lit< tt), h 5 (lit< tt), h 6 (lit< tt), h 7 (lit< tt), h 8 (lit< tt))
 
-pub each-false : (p : ℕ → Bool) (k : ℕ) → k < 9 → p k ≡ false → eachBody p ≡ false
-each-false p zero u e = simp (e, and-false)
-each-false p (suc zero) u e = simp (e, and-false)
-each-false p (suc (suc zero)) u e = simp (e, and-false)
-each-false p (suc (suc (suc zero))) u e = simp (e, and-false)
-each-false p (suc (suc (suc (suc zero)))) u e = simp (e, and-false)
-each-false p (suc (suc (suc (suc (suc zero))))) u e = simp (e, and-false)
-each-false p (suc (suc (suc (suc (suc (suc zero)))))) u e = simp (e, and-false)
-each-false p (suc (suc (suc (suc (suc (suc (suc zero))))))) u e = simp (e, and-false)
-each-false p (suc (suc (suc (suc (suc (suc (suc (suc zero)))))))) u e = simp (e, and-false)
-each-false p (suc (suc (suc (suc (suc (suc (suc (suc (suc n))))))))) u e = absurd (omega arith)
+-- one outcome decides: of a test of each other body a false one, of a test of some a true one
+module _ (p : ℕ → Bool) where
+  other-false : (k : ℕ) → 0 < k → k < 9 → p k ≡ false → eachOther p ≡ false
+  other-false zero l u e = absurd (omega arith)
+  other-false (suc zero) l u e = simp e
+  other-false (suc (suc zero)) l u e = simp (e, and-false)
+  other-false (suc (suc (suc zero))) l u e = simp (e, and-false)
+  other-false (suc (suc (suc (suc zero)))) l u e = simp (e, and-false)
+  other-false (suc (suc (suc (suc (suc zero))))) l u e = simp (e, and-false)
+  other-false (suc (suc (suc (suc (suc (suc zero)))))) l u e = simp (e, and-false)
+  other-false (suc (suc (suc (suc (suc (suc (suc zero))))))) l u e = simp (e, and-false)
+  other-false (suc (suc (suc (suc (suc (suc (suc (suc zero)))))))) l u e = simp (e, and-false)
+  other-false (suc (suc (suc (suc (suc (suc (suc (suc (suc n))))))))) l u e = absurd (omega arith)
+
+  pub each-false : (k : ℕ) → k < 9 → p k ≡ false → eachBody p ≡ false
+  each-false zero u e = rw e
+  each-false (suc k) u e = rw (other-false (suc k) (omega arith) u e) (and-false (p 0))
+
+  other-true : (k : ℕ) → 0 < k → k < 9 → p k ≡ true → someOther p ≡ true
+  other-true zero l u e = absurd (omega arith)
+  other-true (suc zero) l u e = simp e
+  other-true (suc (suc zero)) l u e = simp (e, or-true)
+  other-true (suc (suc (suc zero))) l u e = simp (e, or-true)
+  other-true (suc (suc (suc (suc zero)))) l u e = simp (e, or-true)
+  other-true (suc (suc (suc (suc (suc zero))))) l u e = simp (e, or-true)
+  other-true (suc (suc (suc (suc (suc (suc zero)))))) l u e = simp (e, or-true)
+  other-true (suc (suc (suc (suc (suc (suc (suc zero))))))) l u e = simp (e, or-true)
+  other-true (suc (suc (suc (suc (suc (suc (suc (suc zero)))))))) l u e = simp (e, or-true)
+  other-true (suc (suc (suc (suc (suc (suc (suc (suc (suc n))))))))) l u e = absurd (omega arith)
+
+  all-false : someOther p ≡ false → (k : ℕ) → 0 < k → k < 9 → p k ≡ false
+  all-false e k l u = go (p k) refl
+    where
+      go : (b : Bool) → p k ≡ b → p k ≡ false
+      go true f = absurd (true≢false (sym (other-true k l u f) ∙ e))
+      go false f = f
 
 pub arcs-true : (arcs : List Arc) → ((k : ℕ) → k < 9 → arcInRange (arcAt arcs k) ≡ true) → arcsInRange arcs ≡ true
 unfolding arcsInRange
@@ -41,45 +70,46 @@ pub arcs-false : (arcs : List Arc) (k : ℕ) → k < 9 → arcInRange (arcAt arc
 unfolding arcsInRange
 arcs-false arcs k h e = each-false (λ (body : ℕ). arcInRange (arcAt arcs body)) k h e
 
-module _ (arcs : List Arc) (d : Day) where
-  abbrev met : ℕ → Bool
-  met body = within (arcAt arcs body) (longitudeAt body d)
+module _ (arcs : List Arc) where
+  pub arc-given : (body : ℕ) → 0 < body → body < 9 → arcAt arcs body .given ≡ true → true ≡ otherArcsGiven arcs
+  unfolding otherArcsGiven
+  arc-given body l u e = sym (other-true (λ (k : ℕ). arcAt arcs k .given) body l u e)
 
-  -- no other arc is given
-  pub no-arcs : ((body : ℕ) → 0 < body → body < 9 → arcAt arcs body .given ≡ false) → (met 0 && true) ≡ arcsMet arcs d
-  unfolding arcsMet within
-  no-arcs h =
+  pub no-arc-given : ((body : ℕ) → 0 < body → body < 9 → arcAt arcs body .given ≡ false) → false ≡ otherArcsGiven arcs
+  unfolding otherArcsGiven
+  no-arc-given h =
       rw (h 1 (lit< tt) (lit< tt), h 2 (lit< tt) (lit< tt), h 3 (lit< tt) (lit< tt), h 4 (lit< tt) (lit< tt), h 5 (lit< tt) (lit< tt), h 6 (lit< tt) (lit< tt), h 7 (lit< tt) (lit< tt), h 8 (lit< tt) (lit< tt))
 
+module _ (arcs : List Arc) (d : Day) where
   -- an arc that is not met decides
-  pub arc-not-met : (body : ℕ) (found : Bool) → body < 9 → found ≡ met body → not found ≡ true → (met 0 && false) ≡ arcsMet arcs d
-  unfolding arcsMet
-  arc-not-met body found h e n = and-false (met 0) ∙ sym (each-false met body h (sym e ∙ not-true found n))
+  pub arc-not-met : (body : ℕ) (found : Bool) → 0 < body → body < 9 → found ≡ arcMet arcs d body → not found ≡ true → false ≡ otherArcsMet arcs d
+  unfolding otherArcsMet
+  arc-not-met body found l u e n = sym (other-false (arcMet arcs d) body l u (sym e ∙ not-true found n))
 
   -- else the last arc does
   pub last-arc-met :
       (found : Bool) →
-      met 1 ≡ true →
-      met 2 ≡ true →
-      met 3 ≡ true →
-      met 4 ≡ true →
-      met 5 ≡ true →
-      met 6 ≡ true →
-      met 7 ≡ true →
-      found ≡ met 8 →
-      (met 0 && found) ≡ arcsMet arcs d
-  unfolding arcsMet
+      arcMet arcs d 1 ≡ true →
+      arcMet arcs d 2 ≡ true →
+      arcMet arcs d 3 ≡ true →
+      arcMet arcs d 4 ≡ true →
+      arcMet arcs d 5 ≡ true →
+      arcMet arcs d 6 ≡ true →
+      arcMet arcs d 7 ≡ true →
+      found ≡ arcMet arcs d 8 →
+      found ≡ otherArcsMet arcs d
+  unfolding otherArcsMet
   last-arc-met found a b c e f g h k = rw (a, b, c, e, f, g, h, k)
 
--- what is told of the elements of a day in range
-pub record ElementsOn (d : Day) (told : Panchanga) : Type 0 where
-  pub tithi : told .tithi ≡ tithiAt d
-  pub nakshatra : told .nakshatra ≡ nakshatraAt d
-  pub yoga : told .yoga ≡ yogaAt d
+-- what is handed back of the elements of a day in range
+pub record ElementsOn (d : Day) (found : Panchanga) : Type 0 where
+  pub tithi : found .tithi ≡ tithiAt d
+  pub nakshatra : found .nakshatra ≡ nakshatraAt d
+  pub yoga : found .yoga ≡ yogaAt d
 
-pub elements-on : (d : Day) (told : Panchanga) → inRange d ≡ true → told ≡ panchangaOf d → ElementsOn d told
+pub elements-on : (d : Day) (found : Panchanga) → inRange d ≡ true → found ≡ panchangaOf d → ElementsOn d found
 unfolding panchangaOf
-elements-on d told r e = record { tithi = rw (e, r); nakshatra = rw (e, r); yoga = rw (e, r) }
+elements-on d found r e = record { tithi = rw (e, r); nakshatra = rw (e, r); yoga = rw (e, r) }
 
 module _ (q : Query) (d : Day) where
   pub only-nakshatra : (found : Bool) → q .tithi .given ≡ false → q .yoga .given ≡ false → found ≡ meets (q .nakshatra) (nakshatraAt d) → found ≡ elementsMet q d
@@ -99,25 +129,26 @@ module _ (q : Query) (d : Day) where
   unfolding elementsMet
   yoga-decides found e f g = g ∙ rw (e, f)
 
--- the dear conditions, with the Sun's arc tested apart
-module _ (q : Query) (d : Day) (found : Bool) (e : (within (arcAt (q .arcs) 0) (longitudeAt 0 d) && found) ≡ arcsMet (q .arcs) d) where
-  abbrev sun : Bool
-  sun = within (arcAt (q .arcs) 0) (longitudeAt 0 d)
+  -- where nothing more is asked, nothing more is to be met
+  pub no-more : asksMore q ≡ false → inRange d ≡ true → othersMet q d ≡ true
+  unfolding asksMore otherArcsGiven othersMet otherArcsMet elementsMet meets inArc
+  no-more e r =
+      let tithi = neither (q .tithi .given) (q .nakshatra .given || (q .yoga .given || otherArcsGiven (q .arcs))) e in
+      let nakshatra = neither (q .nakshatra .given) (q .yoga .given || otherArcsGiven (q .arcs)) (tithi .1) in
+      let yoga = neither (q .yoga .given) (otherArcsGiven (q .arcs)) (nakshatra .1) in
+      let arc = all-false (λ (body : ℕ). arcAt (q .arcs) body .given) (yoga .1) in
+      rw (r, tithi .0, nakshatra .0, yoga .0, arc 1 (lit< tt) (lit< tt), arc 2 (lit< tt) (lit< tt), arc 3 (lit< tt) (lit< tt), arc 4 (lit< tt) (lit< tt), arc 5 (lit< tt) (lit< tt), arc 6 (lit< tt) (lit< tt), arc 7 (lit< tt) (lit< tt), arc 8 (lit< tt) (lit< tt))
 
-  pub arcs-not-met : found ≡ false → (sun && false) ≡ (arcsMet (q .arcs) d && elementsMet q d)
-  arcs-not-met f = and-false sun ∙ sym (ap (λ (b : Bool). b && elementsMet q d) (sym e ∙ ap (λ (b : Bool). sun && b) f ∙ and-false sun))
-
-  pub elements-decide : (elements : Bool) → found ≡ true → elements ≡ elementsMet q d → (sun && elements) ≡ (arcsMet (q .arcs) d && elementsMet q d)
-  elements-decide elements f g =
-      ap (λ (b : Bool). sun && b) g
-      ∙ ap (λ (b : Bool). b && elementsMet q d) (sym (and-true sun) ∙ ap (λ (b : Bool). sun && b) (sym f) ∙ e)
-
--- a weekday that is not met decides, and one that is met does where nothing more is asked
+-- the conditions of day n, in the order in which they are tested
 module _ (q : Query) (n : ℕ) where
-  pub weekday-not-met : meets (q .weekday) (weekdayOn n) ≡ false → (sunInArc q n && false) ≡ matches q n
-  unfolding matches
-  weekday-not-met e = and-false (sunInArc q n) ∙ sym (ap (λ (b : Bool). arcsMet (q .arcs) (pairAt n) && (b && elementsMet q (pairAt n))) e ∙ and-false (arcsMet (q .arcs) (pairAt n)))
+  pub sun-not-met : arcMet (q .arcs) (pairAt n) 0 ≡ false → conditionsMet q n ≡ false
+  unfolding conditionsMet arcsMet
+  sun-not-met e = rw e
 
-  pub no-more : AsksNoMore q → meets (q .weekday) (weekdayOn n) ≡ true → (sunInArc q n && true) ≡ matches q n
-  unfolding matches elementsMet meets sunInArc
-  no-more a w = rw (w, a .tithi, a .nakshatra, a .yoga) (no-arcs (q .arcs) (pairAt n) (a .arcs) ∙ sym (and-true (arcsMet (q .arcs) (pairAt n))))
+  pub weekday-not-met : meets (q .weekday) (weekdayOn n) ≡ false → conditionsMet q n ≡ false
+  unfolding conditionsMet
+  weekday-not-met e = rw e (and-false (arcsMet (q .arcs) (pairAt n)))
+
+  pub others-decide : n ≤ lastDay → arcMet (q .arcs) (pairAt n) 0 ≡ true → meets (q .weekday) (weekdayOn n) ≡ true → conditionsMet q n ≡ othersMet q (pairAt n)
+  unfolding conditionsMet arcsMet othersMet otherArcsMet
+  others-decide h e w = rw (e, w, pair-in-range n h)

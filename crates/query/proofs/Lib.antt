@@ -1,3 +1,2 @@
 pub mod Conditions
-pub mod Scan
 pub mod Accepted

@@ -1,13 +1,13 @@
 -- The conditions of a query: when they are in range, and when a day meets them.
 -- Assumes nothing.
-use mathlib.Core.Bool.{Bool, true, false, cond, _&&_}
+use mathlib.Core.Bool.{Bool, true, false, cond, _&&_, _||_}
 use mathlib.Core.List.{List}
-use mathlib.Core.Path.{_≡_}
-use Prim.Native.Nat.{ℕ, _<_}
+use Prim.Native.Nat.{ℕ}
 use lib.Dec.{leb, ltb, eqb}
 use lib.ListN.{getD}
 use Rattle.days.specs.declared.Day.{Day}
-use Rattle.longitudes.specs.Longitudes.{circle, longitudeAt, difference}
+use Rattle.days.specs.Days.{inRange}
+use Rattle.longitudes.specs.Longitudes.{circle, longitudeAt, differenceOf}
 use Rattle.panchanga.specs.OnDays.{tithiAt, nakshatraAt, yogaAt}
 use Rattle.query.specs.declared.Asked.{Asked}
 use Rattle.query.specs.declared.Arc.{Arc}
@@ -25,23 +25,47 @@ unfoldable pub meets : Asked → ℕ → Bool
 meets a n = cond (a .given) (eqb n (a .value)) true
 
 -- a longitude is in the arc, where one is given: longitude − start, reduced by whole circles, is below the width
-unfoldable pub within : Arc → ℕ → Bool
-within a x = cond (a .given) (ltb (difference x (a .start)) (a .width)) true
+unfoldable pub inArc : Arc → ℕ → Bool
+inArc a x = cond (a .given) (ltb (differenceOf x (a .start)) (a .width)) true
 
--- a test holds for each of the nine bodies
+-- a test holds for each body but the Sun, for some of these, for each of the nine
+abbrev pub eachOther : (ℕ → Bool) → Bool
+eachOther p = p 1 && (p 2 && (p 3 && (p 4 && (p 5 && (p 6 && (p 7 && p 8))))))
+
+abbrev pub someOther : (ℕ → Bool) → Bool
+someOther p = p 1 || (p 2 || (p 3 || (p 4 || (p 5 || (p 6 || (p 7 || p 8))))))
+
 abbrev pub eachBody : (ℕ → Bool) → Bool
-eachBody p = p 0 && (p 1 && (p 2 && (p 3 && (p 4 && (p 5 && (p 6 && (p 7 && p 8)))))))
+eachBody p = p 0 && eachOther p
 
 -- the arc of a body
 abbrev pub arcAt : List Arc → ℕ → Arc
 arcAt arcs body = getD arcs body noArc
 
--- each body's mean longitude is in its arc
+-- a body's mean longitude is in its arc
+abbrev pub arcMet : List Arc → Day → ℕ → Bool
+arcMet arcs d body = inArc (arcAt arcs body) (longitudeAt body d)
+
 unfoldable pub arcsMet : List Arc → Day → Bool
-arcsMet arcs d = eachBody (λ (body : ℕ). within (arcAt arcs body) (longitudeAt body d))
+arcsMet arcs d = eachBody (arcMet arcs d)
+
+unfoldable pub otherArcsMet : List Arc → Day → Bool
+otherArcsMet arcs d = eachOther (arcMet arcs d)
 
 unfoldable pub elementsMet : Query → Day → Bool
 elementsMet q d = meets (q .tithi) (tithiAt d) && (meets (q .nakshatra) (nakshatraAt d) && meets (q .yoga) (yogaAt d))
+
+-- a day meets all conditions beside the Sun's arc and the weekday; a pair out of range is no day
+unfoldable pub othersMet : Query → Day → Bool
+othersMet q d = inRange d && (otherArcsMet (q .arcs) d && elementsMet q d)
+
+-- an arc of another body than the Sun is given
+unfoldable pub otherArcsGiven : List Arc → Bool
+otherArcsGiven arcs = someOther (λ (body : ℕ). arcAt arcs body .given)
+
+-- something is asked beside the Sun's arc and the weekday
+unfoldable pub asksMore : Query → Bool
+asksMore q = q .tithi .given || (q .nakshatra .given || (q .yoga .given || otherArcsGiven (q .arcs)))
 
 -- a number that is given is at most the largest there is
 unfoldable pub askedInRange : Asked → ℕ → Bool
@@ -59,10 +83,3 @@ unfoldable pub conditionsInRange : Query → Bool
 conditionsInRange q =
     askedInRange (q .weekday) 6
     && (askedInRange (q .tithi) 29 && (askedInRange (q .nakshatra) 26 && (askedInRange (q .yoga) 26 && arcsInRange (q .arcs))))
-
--- nothing is asked but the Sun's arc and the weekday
-pub record AsksNoMore (q : Query) : Type 0 where
-  pub tithi : q .tithi .given ≡ false
-  pub nakshatra : q .nakshatra .given ≡ false
-  pub yoga : q .yoga .given ≡ false
-  pub arcs : (body : ℕ) → 0 < body → body < 9 → arcAt (q .arcs) body .given ≡ false

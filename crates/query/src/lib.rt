@@ -1,21 +1,16 @@
-// A query, and the one function that examines a day for it.
+// A query: its conditions, their ranges, and whether a day meets those that few days have to be tested for.
 use days::Day;
 use days::refusal;
 use longitudes::Body;
 use longitudes::CIRCLE;
 ghost use mathlib.Core.Path.{_≡_};
-ghost use mathlib.Core.Bool.{true, false, _&&_};
-ghost use Prim.Native.Nat.{ℕ, _<_, _≤_};
-ghost use lib.Dec.{eqb};
-ghost use Rattle.days.specs.Days.{lastDay, inRange, weekdayOn};
+ghost use mathlib.Core.Bool.{true};
+ghost use Rattle.days.specs.Days.{inRange};
 ghost use Rattle.longitudes.specs.Longitudes.{longitudeAt};
 ghost use Rattle.longitudes.specs.Answers.{bodyNumber};
 ghost use Rattle.panchanga.specs.OnDays.{nakshatraAt};
-ghost use Rattle.query.specs.Conditions.{meets, within, askedInRange, arcInRange, arcsInRange, conditionsInRange, arcAt, arcsMet, elementsMet, AsksNoMore};
-ghost use Rattle.query.specs.Query.{refusalOf, examinedOf};
-
-// The most that the mean Sun advances in a day, in seconds of arc.
-const SUN_ADVANCE: u32 = 3549;
+ghost use Rattle.query.specs.Conditions.{meets, inArc, askedInRange, arcInRange, arcsInRange, conditionsInRange, otherArcsMet, elementsMet, othersMet, otherArcsGiven, asksMore};
+ghost use Rattle.query.specs.Query.{refusalOf};
 
 // A number that is asked for. Where it is not given, every number will do and `value` means nothing.
 pub struct Asked {
@@ -39,13 +34,6 @@ pub struct Query {
     pub nakshatra: Asked,
     pub yoga: Asked,
     pub arcs: [Arc; 9],
-}
-
-// Whether a day matches, and the day that the scan goes to next.
-pub struct Examined {
-    pub refusal: u32,
-    pub matches: bool,
-    pub next: u32,
 }
 
 impl Asked {
@@ -158,7 +146,7 @@ impl Query {
 
 fn in_arc(arc: Arc, body: Body, day: Day) -> bool
     requires { ⌜ inRange day ≡ true ⌝ }
-    ensures { λ r. ⌜ r ≡ within arc (longitudeAt (bodyNumber body) day) ⌝ }
+    ensures { λ r. ⌜ r ≡ inArc arc (longitudeAt (bodyNumber body) day) ⌝ }
 {
     if arc.given {
         let found = longitudes::mean_longitude(body, day);
@@ -170,7 +158,7 @@ fn in_arc(arc: Arc, body: Body, day: Day) -> bool
 }
 
 fn other_arcs_given(arcs: [Arc; 9]) -> bool
-    ensures { λ r. ⌜ (r ≡ false → (body : ℕ) → 0 < body → body < 9 → arcAt arcs body .given ≡ false) ⌝ }
+    ensures { λ r. ⌜ r ≡ otherArcsGiven arcs ⌝ }
 {
     let mut body = 1;
     while body < 9 {
@@ -186,7 +174,7 @@ fn other_arcs_given(arcs: [Arc; 9]) -> bool
 // The arcs of all bodies but the Sun.
 fn other_arcs_met(arcs: [Arc; 9], day: Day) -> bool
     requires { ⌜ inRange day ≡ true ⌝ }
-    ensures { λ r. ⌜ (within (arcAt arcs 0) (longitudeAt 0 day) && r) ≡ arcsMet arcs day ⌝ }
+    ensures { λ r. ⌜ r ≡ otherArcsMet arcs day ⌝ }
 {
     if !in_arc(arcs[1], Body::Moon, day) {
         return false;
@@ -212,7 +200,7 @@ fn other_arcs_met(arcs: [Arc; 9], day: Day) -> bool
     in_arc(arcs[8], Body::Saturn, day)
 }
 
-// True longitudes are dear: they are reckoned only where an element is asked for, the Sun's only for a tithi or a yoga.
+// True longitudes take long to reckon: this is done only where an element is asked for, the Sun's only for a tithi or a yoga.
 fn elements_met(query: Query, day: Day) -> bool
     requires { ⌜ inRange day ≡ true ⌝ }
     ensures { λ r. ⌜ r ≡ elementsMet query day ⌝ }
@@ -247,33 +235,13 @@ fn nakshatra_met(asked: Asked, day: Day) -> bool
     }
 }
 
-// Whether a day has the weekday: seven divides its number less the weekday. The compiler makes one product of that, where the weekday itself takes a division.
-fn has_weekday(number: u32, weekday: u32) -> bool
-    requires { ⌜ number ≤ lastDay ⌝ }
-    ensures { λ r. ⌜ r ≡ eqb (weekdayOn number) weekday ⌝ }
+// Whether a day meets all conditions beside the Sun's arc and the weekday: the other bodies' arcs, then the elements. A pair that is no day meets none.
+pub fn others_met(query: Query, day: Day) -> bool
+    ensures { λ r. ⌜ r ≡ othersMet query day ⌝ }
 {
-    if 6 < weekday {
+    if !day.in_range() {
         return false;
     }
-    (number + 7 - weekday) % 7 == 0
-}
-
-fn weekday_met(asked: Asked, number: u32) -> bool
-    requires { ⌜ number ≤ lastDay ⌝ }
-    ensures { λ r. ⌜ r ≡ meets asked (weekdayOn number) ⌝ }
-{
-    if asked.given {
-        has_weekday(number, asked.value)
-    } else {
-        true
-    }
-}
-
-// The conditions that are dear to test: the other bodies' arcs, then the elements.
-fn others_met(query: Query, day: Day) -> bool
-    requires { ⌜ inRange day ≡ true ⌝ }
-    ensures { λ r. ⌜ (within (arcAt (query .arcs) 0) (longitudeAt 0 day) && r) ≡ (arcsMet (query .arcs) day && elementsMet query day) ⌝ }
-{
     let arcs = query.arcs;
     if !other_arcs_met(arcs, day) {
         return false;
@@ -281,9 +249,9 @@ fn others_met(query: Query, day: Day) -> bool
     elements_met(query, day)
 }
 
-// Something is asked beside the Sun's arc and the weekday.
-fn asks_more(query: Query) -> bool
-    ensures { λ r. ⌜ (r ≡ false → AsksNoMore query) ⌝ }
+// Whether anything is asked beside the Sun's arc and the weekday.
+pub fn asks_more(query: Query) -> bool
+    ensures { λ r. ⌜ r ≡ asksMore query ⌝ }
 {
     if query.tithi.given {
         return true;
@@ -296,54 +264,4 @@ fn asks_more(query: Query) -> bool
     }
     let arcs = query.arcs;
     other_arcs_given(arcs)
-}
-
-fn told(matches: bool, next: u32) -> Examined
-    ensures { λ r. ⌜ r ≡ record { refusal = 0; matches = matches; next = next } ⌝ }
-{
-    Examined {
-        refusal: refusal::NONE,
-        matches,
-        next,
-    }
-}
-
-// Paper 01's look: the only way to longitudes and conditions. It reckons them for the day given and for no other. The Sun's arc comes first, since it decides the next
-// day, then the weekday where it decides. (The calls of `others_met` are two, so that the compiler leaves it out of the scan's loop: most days do not come to it.)
-pub fn examine(query: Query, day: u32) -> Examined
-    ensures { λ r. ⌜ r ≡ examinedOf query day ⌝ }
-{
-    let pair = Day::from_number(day);
-    if pair.refusal != refusal::NONE {
-        return Examined {
-            refusal: refusal::OUT_OF_RANGE,
-            matches: false,
-            next: 0,
-        };
-    }
-    let asked = query.weekday;
-    let more = asks_more(query);
-    let arc = query.arcs[0];
-    if !arc.given {
-        if !weekday_met(asked, day) {
-            return told(false, day + 1);
-        }
-        if !more {
-            return told(true, day + 1);
-        }
-        return told(others_met(query, pair.day), day + 1);
-    }
-    let sun = longitudes::mean_longitude(Body::Sun, pair.day);
-    let past = longitudes::difference(sun.number, arc.start);
-    if past < arc.width {
-        if !weekday_met(asked, day) {
-            return told(false, day + 1);
-        }
-        if !more {
-            return told(true, day + 1);
-        }
-        return told(others_met(query, pair.day), day + 1);
-    }
-    let ahead = longitudes::difference(arc.start, sun.number);
-    told(false, day + (ahead + (SUN_ADVANCE - 1)) / SUN_ADVANCE)
 }

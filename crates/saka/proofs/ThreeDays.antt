@@ -11,25 +11,25 @@ use lib.ListN.{length}
 use borrow.Author.Tests.{eqb-true, eqb-false, eq-eqb, ne-eqb}
 use Rattle.days.specs.Refusals.{noSuchWeekday}
 use Rattle.days.specs.Days.{noNumber}
-use Rattle.saka.specs.LunarDays.{weekdayAt, threeDays, havingWeekday, numberAt, answerFrom, dayOn}
+use Rattle.saka.specs.LunarDays.{integerWeekday, threeDays, havingWeekday, integerDay, answerFrom, dayOn}
 
 -- the weekday of the day before, which may be day −1
-before : (n : ℕ) → weekdayAt (predℤ (pos n)) ≡ (n + 6) % 7
+before : (n : ℕ) → integerWeekday (predℤ (pos n)) ≡ (n + 6) % 7
 before zero = refl
 before (suc n) = omega arith
 
 module _ (w : ℕ) (z : ℤ) (zs : List ℤ) where
-  has : weekdayAt z ≡ w → havingWeekday w (z ∷ zs) ≡ z ∷ havingWeekday w zs
+  has : integerWeekday z ≡ w → havingWeekday w (z ∷ zs) ≡ z ∷ havingWeekday w zs
   unfolding havingWeekday
-  has e = rw (eq-eqb (weekdayAt z) w e)
+  has e = rw (eq-eqb (integerWeekday z) w e)
 
-  lacks : (weekdayAt z ≡ w → ⊥) → havingWeekday w (z ∷ zs) ≡ havingWeekday w zs
+  lacks : (integerWeekday z ≡ w → ⊥) → havingWeekday w (z ∷ zs) ≡ havingWeekday w zs
   unfolding havingWeekday
-  lacks e = rw (ne-eqb (weekdayAt z) w e)
+  lacks e = rw (ne-eqb (integerWeekday z) w e)
 
 -- the days that have the weekday, where one of the three has it, and where none has
 module _ (w n : ℕ) where
-  only-before : weekdayAt (predℤ (pos n)) ≡ w → havingWeekday w (threeDays n) ≡ predℤ (pos n) ∷ []
+  only-before : integerWeekday (predℤ (pos n)) ≡ w → havingWeekday w (threeDays n) ≡ predℤ (pos n) ∷ []
   unfolding havingWeekday
   only-before e = rw (has w (predℤ (pos n)) _ e, lacks w (pos n) _ (λ x. omega (arith, before n)), lacks w (pos (n + 1)) [] (λ x. omega (arith, before n)))
 
@@ -41,15 +41,15 @@ module _ (w n : ℕ) where
   unfolding havingWeekday
   only-after e = rw (lacks w (predℤ (pos n)) _ (λ x. omega (arith, before n)), lacks w (pos n) _ (λ x. omega arith), has w (pos (n + 1)) [] e)
 
-  none : (weekdayAt (predℤ (pos n)) ≡ w → ⊥) → (n % 7 ≡ w → ⊥) → ((n + 1) % 7 ≡ w → ⊥) → havingWeekday w (threeDays n) ≡ []
+  none : (integerWeekday (predℤ (pos n)) ≡ w → ⊥) → (n % 7 ≡ w → ⊥) → ((n + 1) % 7 ≡ w → ⊥) → havingWeekday w (threeDays n) ≡ []
   unfolding havingWeekday
   none i j k = rw (lacks w (predℤ (pos n)) _ i, lacks w (pos n) _ j, lacks w (pos (n + 1)) [] k)
 
 -- at most one of the three days has the weekday, so the order in which they are tried cannot matter
 pub at-most-one : (w n : ℕ) → length (havingWeekday w (threeDays n)) ≤ 1
-at-most-one w n = go (eqb (weekdayAt (predℤ (pos n))) w) (eqb (n % 7) w) (eqb ((n + 1) % 7) w) refl refl refl
+at-most-one w n = go (eqb (integerWeekday (predℤ (pos n))) w) (eqb (n % 7) w) (eqb ((n + 1) % 7) w) refl refl refl
   where
-    go : (a b c : Bool) → eqb (weekdayAt (predℤ (pos n))) w ≡ a → eqb (n % 7) w ≡ b → eqb ((n + 1) % 7) w ≡ c → length (havingWeekday w (threeDays n)) ≤ 1
+    go : (a b c : Bool) → eqb (integerWeekday (predℤ (pos n))) w ≡ a → eqb (n % 7) w ≡ b → eqb ((n + 1) % 7) w ≡ c → length (havingWeekday w (threeDays n)) ≤ 1
     go true b c i j k = rw (only-before w n (eqb-true _ _ i)) (omega arith)
     go false true c i j k = rw (only-reckoned w n (eqb-true _ _ j)) (omega arith)
     go false false true i j k = rw (only-after w n (eqb-true _ _ k)) (omega arith)
@@ -60,15 +60,15 @@ module _ (w n : ℕ) (h : w < 7) where
   abbrev ahead : ℕ
   ahead = (w + 7 - n % 7) % 7
 
-  pub on-reckoned : ahead ≡ 0 → dayOn w n ≡ numberAt (pos n)
+  pub on-reckoned : ahead ≡ 0 → dayOn w n ≡ integerDay (pos n)
   unfolding dayOn answerFrom
   on-reckoned k = rw (only-reckoned w n (omega arith))
 
-  pub on-after : ahead ≡ 1 → dayOn w n ≡ numberAt (pos (n + 1))
+  pub on-after : ahead ≡ 1 → dayOn w n ≡ integerDay (pos (n + 1))
   unfolding dayOn answerFrom
   on-after k = rw (only-after w n (omega arith))
 
-  pub on-before : ahead ≡ 6 → dayOn w n ≡ numberAt (predℤ (pos n))
+  pub on-before : ahead ≡ 6 → dayOn w n ≡ integerDay (predℤ (pos n))
   unfolding dayOn answerFrom
   on-before k = rw (only-before w n (omega (arith, before n)))
 

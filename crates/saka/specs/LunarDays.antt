@@ -23,7 +23,7 @@ fieldsInRange d = ltb (d .months) 12 && (ltb (d .tithis) 30 && ltb (d .weekday) 
 unfoldable pub yearInRange : ℕ → Bool
 yearInRange y = leb firstYear y && leb y lastYear
 
--- paper 01's C: the cycles of eleven years
+-- paper 01's C = Y / 11 with Y = year − 1442: the cycles of eleven years
 abbrev pub cycleOf : LunarDate → ℕ
 cycleOf d = (d .year - firstYear) / 11
 
@@ -47,32 +47,33 @@ elapsedTithis d = 30 * trueMonths d + d .tithis + cycleOf d / 6
 abbrev pub civilDays : LunarDate → ℕ
 civilDays d = elapsedTithis d - elapsedTithis d / 64
 
+-- paper 01's reckoned day
 unfoldable pub reckonedDay : LunarDate → ℕ
 reckonedDay d = cycleDays * cycleOf d + civilDays d
 
 -- the weekday of an integer day; day −1 is a Sunday
-abbrev pub weekdayAt : ℤ → ℕ
-weekdayAt (pos n) = weekdayOn n
-weekdayAt (negsuc n) = 6 - n % 7
+abbrev pub integerWeekday : ℤ → ℕ
+integerWeekday (pos n) = weekdayOn n
+integerWeekday (negsuc n) = 6 - n % 7
 
--- the day before day n, day n, and the day after
+-- paper 01's three days: the day before day n, day n, and the day after
 abbrev pub threeDays : ℕ → List ℤ
 threeDays n = predℤ (pos n) ∷ pos n ∷ pos (n + 1) ∷ []
 
 -- those of the days that have weekday w
 unfoldable pub havingWeekday : ℕ → List ℤ → List ℤ
 havingWeekday w [] = []
-havingWeekday w (z ∷ zs) = cond (eqb (weekdayAt z) w) (z ∷ havingWeekday w zs) (havingWeekday w zs)
+havingWeekday w (z ∷ zs) = cond (eqb (integerWeekday z) w) (z ∷ havingWeekday w zs) (havingWeekday w zs)
 
 -- days run from 0 to 401,599
-unfoldable pub numberAt : ℤ → NumberAnswer
-numberAt (pos n) = cond (leb n lastDay) (theNumber n) (noNumber outOfRange)
-numberAt (negsuc _) = noNumber outOfRange
+unfoldable pub integerDay : ℤ → NumberAnswer
+integerDay (pos n) = cond (leb n lastDay) (theNumber n) (noNumber outOfRange)
+integerDay (negsuc _) = noNumber outOfRange
 
 -- the answer from the days that have the weekday: none of the three, or just one (the law `at-most-one`)
 unfoldable pub answerFrom : List ℤ → NumberAnswer
 answerFrom [] = noNumber noSuchWeekday
-answerFrom (z ∷ _) = numberAt z
+answerFrom (z ∷ _) = integerDay z
 
 unfoldable pub dayOn : ℕ → ℕ → NumberAnswer
 dayOn w n = answerFrom (havingWeekday w (threeDays n))

@@ -1,4 +1,4 @@
-// The Saka lunar date to a day: the mean reckoning, mended by the weekday.
+// The Saka lunar date to a day: the mean reckoning, corrected by the weekday.
 use days::Day;
 use days::NumberAnswer;
 use days::refusal;
@@ -6,8 +6,7 @@ ghost use mathlib.Core.Bool.{true};
 ghost use mathlib.Core.Path.{_≡_};
 ghost use Prim.Native.Nat.{_<_};
 ghost use lib.IntN.{pos, predℤ};
-ghost use Rattle.days.specs.Days.{noNumber};
-ghost use Rattle.saka.specs.LunarDays.{lunarDay, fieldsInRange, yearInRange, reckonedDay, extraMonths, dayOn, numberAt};
+ghost use Rattle.saka.specs.LunarDays.{lunarDay, fieldsInRange, yearInRange, reckonedDay, extraMonths, dayOn, integerDay};
 
 // The Saka year, the lunar months (0 to 11) and the tithis (0 to 29), all elapsed, and the weekday, 0 Monday to 6 Sunday.
 pub struct LunarDate {
@@ -25,10 +24,10 @@ pub fn day_of(date: LunarDate) -> NumberAnswer
     ensures { λ r. ⌜ r ≡ lunarDay date ⌝ }
 {
     if !fields_in_range(date) {
-        return refused(refusal::BAD_INPUT);
+        return NumberAnswer::refused(refusal::BAD_INPUT);
     }
     if !year_in_range(date.year) {
-        return refused(refusal::OUT_OF_RANGE);
+        return NumberAnswer::OUT_OF_RANGE;
     }
     on_weekday(reckoned_day(date), date.weekday)
 }
@@ -96,36 +95,27 @@ fn on_weekday(reckoned: u32, weekday: u32) -> NumberAnswer
     } else if ahead == 6 {
         day_before(reckoned)
     } else {
-        refused(refusal::NO_SUCH_WEEKDAY)
+        NumberAnswer::refused(refusal::NO_SUCH_WEEKDAY)
     }
 }
 
 // Day -1, before day 0, is out of range.
 fn day_before(day: u32) -> NumberAnswer
-    ensures { λ r. ⌜ r ≡ numberAt (predℤ (pos day)) ⌝ }
+    ensures { λ r. ⌜ r ≡ integerDay (predℤ (pos day)) ⌝ }
 {
     if day == 0 {
-        refused(refusal::OUT_OF_RANGE)
+        NumberAnswer::OUT_OF_RANGE
     } else {
         number(day - 1)
     }
 }
 
 fn number(day: u32) -> NumberAnswer
-    ensures { λ r. ⌜ r ≡ numberAt (pos day) ⌝ }
+    ensures { λ r. ⌜ r ≡ integerDay (pos day) ⌝ }
 {
     if day <= Day::LAST {
-        NumberAnswer {
-            refusal: refusal::NONE,
-            number: day,
-        }
+        NumberAnswer::accepted(day)
     } else {
-        refused(refusal::OUT_OF_RANGE)
+        NumberAnswer::OUT_OF_RANGE
     }
-}
-
-fn refused(refusal: u32) -> NumberAnswer
-    ensures { λ r. ⌜ r ≡ noNumber refusal ⌝ }
-{
-    NumberAnswer { refusal, number: 0 }
 }

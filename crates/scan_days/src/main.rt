@@ -1,19 +1,16 @@
 // Prints the scan of paper 01's worked query. First the query: first day, last day, the arc's start and its width. Then a line for each day that
 // the scan visits: the day, its mean Sun, 1 where it matches, and the day that comes next. docs/scan.svg is drawn from this output.
 use days::Day;
+use days::refusal;
 use libc::STDOUT_FILENO;
 use longitudes::Body;
 use query::Arc;
 use query::Asked;
-use query::Examined;
 use query::Query;
-ghost use mathlib.Core.Path.{_≡_};
-ghost use Rattle.query.specs.Query.{refusalOf};
+use search::Examined;
 
 // Days 0 to 729, the Sun's arc from 0, width 3600.
-fn worked() -> Query
-    ensures { λ query. ⌜ refusalOf query ≡ 0 ⌝ }
-{
+fn worked() -> Query {
     let mut arcs = [Arc::NONE; 9];
     arcs[0] = Arc {
         given: true,
@@ -53,13 +50,14 @@ fn show_visit(day: u32, seen: Examined) {
     print(seen.next, b"\n");
 }
 
-fn show_scan(query: Query)
-    requires { ⌜ refusalOf query ≡ 0 ⌝ }
-{
+fn show_scan(query: Query) {
     let last = query.last;
     let mut day = query.first;
     while day <= last {
-        let seen = query::examine(query, day);
+        let seen = search::examine(query, day);
+        if seen.refusal != refusal::NONE {
+            return;
+        }
         show_visit(day, seen);
         day = seen.next;
     }

@@ -4,15 +4,15 @@ use Prim.Native.Nat.{ℕ, _+_, _*_, _-_, _/_, _%_, _≤_, _<_}
 use mathlib.Core.Path.{_≡_, ap, sym, _∙_}
 use native.Mathlib.Omega.{arith}
 use Rattle.days.specs.Days.{pairAt}
-use Rattle.longitudes.specs.Longitudes.{circle, difference}
+use Rattle.longitudes.specs.Longitudes.{circle, differenceOf}
 use Rattle.longitudes.proofs.Sun.{unrolled, unrolled-reduced, days-most, mono}
 use Rattle.longitudes.proofs.Subtraction.{difference-law}
 use Rattle.longitudes.proofs.Table.{longitude-small}
-use Rattle.query.specs.Query.{sunOn}
+use Rattle.search.specs.Look.{sunOn}
 
 -- the seconds that the mean Sun of day d is past s
 abbrev pub past : ℕ → ℕ → ℕ
-past s d = difference (sunOn d) s
+past s d = differenceOf (sunOn d) s
 
 -- the circles that the unrolled Sun has made past s by day d
 unfoldable pub circles : ℕ → ℕ → ℕ
@@ -32,7 +32,7 @@ unfolding circles
 past-circles s d h = omega (arith, past-unrolled s d h)
 
 -- from past s the way forward to s is the rest of the circle
-pub ahead-past : (s d : ℕ) → s < circle → 0 < past s d → difference s (sunOn d) ≡ circle - past s d
+pub ahead-past : (s d : ℕ) → s < circle → 0 < past s d → differenceOf s (sunOn d) ≡ circle - past s d
 ahead-past s d h k = omega (arith, difference-law s (sunOn d) (omega (arith, longitude-small 0 (pairAt d))), difference-law (sunOn d) s (omega arith), longitude-small 0 (pairAt d))
 
 -- until the Sun can be at s again, it is past s by no less than on day d

@@ -1,23 +1,26 @@
 -- The laws beside the search: the matching days and the visited days ascend strictly, so each stands once; a day is listed if and only if it is in the span
--- and meets the conditions; what is written to a list is read back; every matching day is visited; a second pass visits the first days that the first one visits. By induction on the days.
+-- and meets the conditions; what is written to a list is read back; every matching day is visited. By induction on the days.
 -- Assumes nothing.
 use Prim.Native.Nat.{ℕ, zero, suc, _+_, _-_, _≤_, _<_}
 use mathlib.Core.Path.{_≡_, refl, ap, sym, subst, _∙_}
-use mathlib.Core.Bool.{Bool, true, false, cond}
-use mathlib.Core.List.{List, [], _∷_, _++_}
+use mathlib.Core.Bool.{Bool, true, false, cond, _&&_, false≢true}
+use mathlib.Core.List.{List, [], _∷_}
 use mathlib.Core.Logic.{_⊎_, inl, inr}
 use native.Mathlib.Omega.{arith}
 use native.Mathlib.Decide.{decLe}
-use lib.ListN.{length, getD, length-append, length-drop}
-use borrow.Author.Tests.{lt-ltb}
+use lib.Dec.{leb, eqb}
+use lib.ListN.{length, getD}
+use borrow.Author.Tests.{leb-true, le-leb, eqb-true, eqb-false, eq-eqb}
+use Rattle.days.specs.Days.{lastDay, theNumber}
+use Rattle.entries.specs.Entries.{withEntries, capacity, entryAt}
 use Rattle.query.specs.declared.Query.{Query}
 use Rattle.query.specs.Conditions.{arcInRange}
-use Rattle.query.specs.Query.{matches, sunInArc, nextDay, refusalOf}
-use Rattle.search.specs.Days.{filtered, daysFrom, spanLength, span, until, matchingDays, visitedFrom, visitedDays}
-use Rattle.search.specs.Search.{withEntries, capacity, entryAt}
-use Rattle.query.proofs.Accepted.{sunArc, accepted-by}
-use Rattle.search.proofs.Arc.{next-later}
-use Rattle.search.proofs.Entries.{entries-length, read-entry}
+use Rattle.query.specs.Query.{sunArc, conditionsMet, matches, refusalOf}
+use Rattle.query.proofs.Accepted.{accepted-by}
+use Rattle.search.specs.Look.{nextDay, notExamined, examinedOf}
+use Rattle.search.specs.Days.{filtered, daysFrom, spanLength, span, matchingDays, visitedFrom, visitedDays}
+use Rattle.search.proofs.Arc.{next-after}
+use Rattle.entries.proofs.Laws.{entries-read}
 use Rattle.search.proofs.Skip.{matching-visited, visit-end, visit-more, bound}
 
 -- each element is at least a, and below those behind it
@@ -56,7 +59,7 @@ days-ascend p a (suc n) = go (p a) (days-ascend p (suc a) n)
 
 pub matching-ascend : (q : Query) → Ascending (q .first) (matchingDays q)
 unfolding matchingDays
-matching-ascend q = days-ascend (matches q) (q .first) (spanLength q)
+matching-ascend q = days-ascend (conditionsMet q) (q .first) (spanLength q)
 
 -- a day is in the list if and only if it is in the span and meets all conditions given
 abbrev Inside : (ℕ → Bool) → ℕ → ℕ → ℕ → Type 0
@@ -102,17 +105,49 @@ in-days x a (suc n) h k = go (decLe (suc a) x) (λ l. in-days x (suc a) n l (ome
 pub record Listed (q : Query) (x : ℕ) : Type 0 where
   pub from-first : q .first ≤ x
   pub to-last : x ≤ q .last
-  pub meets-all : matches q x ≡ true
+  pub meets-all : conditionsMet q x ≡ true
 
 pub listed-only : (q : Query) (x : ℕ) → Has x (matchingDays q) → Listed q x
 unfolding matchingDays
 listed-only q x h =
-    let l = listed (matches q) x (q .first) (spanLength q) h in
+    let l = listed (conditionsMet q) x (q .first) (spanLength q) h in
     record { from-first = l .0; to-last = omega (arith, l .0, l .1); meets-all = l .2 }
 
 pub listed-all : (q : Query) (x : ℕ) → Listed q x → Has x (matchingDays q)
 unfolding matchingDays
-listed-all q x l = has-filtered (matches q) x (l .meets-all) (span q) (in-days x (q .first) (spanLength q) (l .from-first) (omega (arith, l .from-first, l .to-last)))
+listed-all q x l = has-filtered (conditionsMet q) x (l .meets-all) (span q) (in-days x (q .first) (spanLength q) (l .from-first) (omega (arith, l .from-first, l .to-last)))
+
+-- and these are the days of which the look says that they match
+pub listed-matches : (q : Query) (x : ℕ) → Listed q x → matches q x ≡ true
+unfolding matches
+listed-matches q x l = rw (le-leb _ _ (l .from-first), le-leb _ _ (l .to-last)) (l .meets-all)
+
+pub matches-listed : (q : Query) (x : ℕ) → matches q x ≡ true → Listed q x
+unfolding matches
+matches-listed q x e = go (leb (q .first) x) (leb x (q .last)) refl refl e
+  where
+    go : (a b : Bool) → leb (q .first) x ≡ a → leb x (q .last) ≡ b → ((a && b) && conditionsMet q x) ≡ true → Listed q x
+    go true true f t m = record { from-first = leb-true _ _ f; to-last = leb-true _ _ t; meets-all = m }
+    go true false f t m = absurd (false≢true m)
+    go false b f t m = absurd (false≢true m)
+
+-- the look goes forward: the day that it hands back is later than the day, where it is not refused
+pub next-later : (q : Query) (n : ℕ) → refusalOf q ≡ 0 → n ≤ lastDay → n < examinedOf q n .next
+unfolding examinedOf
+next-later q n e h = rw (le-leb n lastDay h, eq-eqb (refusalOf q) 0 e) (next-after q (accepted-by q e .sun) n)
+
+pub looked-later : (q : Query) (n : ℕ) → examinedOf q n .refusal ≡ 0 → n < examinedOf q n .next
+looked-later q n r = go (leb n lastDay) (eqb (refusalOf q) 0) refl refl (unfold examinedOf in r)
+  where
+    go :
+        (h e : Bool) →
+        leb n lastDay ≡ h →
+        eqb (refusalOf q) 0 ≡ e →
+        cond h (cond e (record { refusal = 0; matches = matches q n; next = nextDay q n }) (notExamined (refusalOf q))) (notExamined 2) .refusal ≡ 0 →
+        n < examinedOf q n .next
+    go true true h e r = next-later q n (eqb-true _ _ e) (leb-true _ _ h)
+    go true false h e r = absurd (eqb-false _ _ e r)
+    go false e h f r = absurd (omega arith)
 
 has-at : (k : ℕ) (xs : List ℕ) → k < length xs → Has (getD xs k 0) xs
 unfolding Has
@@ -126,18 +161,15 @@ pub listed-read :
     refusalOf q ≡ 0 →
     length (matchingDays q) ≤ capacity l →
     k < length (matchingDays q) →
-    entryAt (withEntries (matchingDays q) l) k ≡ getD (matchingDays q) k 0
-unfolding entryAt
+    entryAt (withEntries (matchingDays q) l) k ≡ theNumber (getD (matchingDays q) k 0)
 listed-read q l k e room h =
     let n = listed-only q (getD (matchingDays q) k 0) (has-at k (matchingDays q) h) in
-    let whole : length (withEntries (matchingDays q) l) ≡ length l = simp (length-append, length-drop) (omega (arith, entries-length (matchingDays q))) in
-    rw (lt-ltb k (capacity (withEntries (matchingDays q) l)) (omega (arith, whole)))
-    (read-entry (matchingDays q) _ k h (omega (arith, n .to-last, accepted-by q e .last)))
+    entries-read (matchingDays q) l k room h (omega (arith, n .to-last, accepted-by q e .last))
 
--- a list begins with the elements of another
-pub record Front (xs ys : List ℕ) : Type 0 where
-  pub later : List ℕ
-  pub whole : ys ≡ xs ++ later
+-- the walk ends before its bound: a larger one gives the same days
+pub bound-not-reached : (q : Query) (n : ℕ) → refusalOf q ≡ 0 → spanLength q ≤ n → visitedFrom q n (q .first) ≡ visitedDays q
+unfolding visitedDays
+bound-not-reached q n e h = bound q (accepted-by q e .sun) n (spanLength q) (q .first) h (omega arith)
 
 module _ (q : Query) (r : arcInRange (sunArc q) ≡ true) where
   visits-from : (n d : ℕ) → Ascending d (visitedFrom q n d)
@@ -145,7 +177,7 @@ module _ (q : Query) (r : arcInRange (sunArc q) ≡ true) where
   visits-from (suc n) d = go (decLe d (q .last)) (visits-from n (nextDay q d))
     where
       go : Dec (d ≤ q .last) → Ascending (nextDay q d) (visitedFrom q n (nextDay q d)) → Ascending d (visitedFrom q (suc n) d)
-      go (yes h) u = rw (visit-more q r n d h) (unfold Ascending in (omega arith, weaken (suc d) (nextDay q d) (visitedFrom q n (nextDay q d)) (next-later q r d) u))
+      go (yes h) u = rw (visit-more q r n d h) (unfold Ascending in (omega arith, weaken (suc d) (nextDay q d) (visitedFrom q n (nextDay q d)) (next-after q r d) u))
       go (no h) u = rw (visit-end q r (suc n) d (omega arith)) (unfold Ascending in tt)
 
   -- the scan visits each day at most once
@@ -155,31 +187,4 @@ module _ (q : Query) (r : arcInRange (sunArc q) ≡ true) where
 
   -- every matching day is visited
   pub matching-are-visited : (x : ℕ) → Has x (matchingDays q) → Has x (visitedDays q)
-  matching-are-visited x h = filtered-has (matches q) x (visitedDays q) (rw (matching-visited q r) h)
-
-  -- where the span is cut off behind day c, as for the second pass, the days visited are the first of those that were
-  module _ (c : ℕ) (low : c ≤ q .last) where
-    same-next : (d : ℕ) → nextDay (until q c) d ≡ nextDay q d
-    same-next d = unfold nextDay sunInArc in refl
-
-    front : (n d : ℕ) → Front (visitedFrom (until q c) n d) (visitedFrom q n d)
-    front zero d = record { later = []; whole = unfold visitedFrom in refl }
-    front (suc n) d = go (decLe d c) (front n (nextDay q d))
-      where
-        go : Dec (d ≤ c) → Front (visitedFrom (until q c) n (nextDay q d)) (visitedFrom q n (nextDay q d)) → Front (visitedFrom (until q c) (suc n) d) (visitedFrom q (suc n) d)
-        go (yes h) f =
-            let more : visitedFrom (until q c) (suc n) d ≡ d ∷ visitedFrom (until q c) n (nextDay q d) =
-            visit-more (until q c) r n d h ∙ ap (λ (x : ℕ). d ∷ visitedFrom (until q c) n x) (same-next d) in
-            record { later = f .later; whole = visit-more q r n d (omega arith) ∙ ap (λ (t : List ℕ). d ∷ t) (f .whole) ∙ ap (λ (t : List ℕ). t ++ f .later) (sym more) }
-        go (no h) f =
-            record {
-              later = visitedFrom q (suc n) d;
-              whole = ap (λ (t : List ℕ). t ++ visitedFrom q (suc n) d) (sym (visit-end (until q c) r (suc n) d (omega arith)));
-            }
-
-    pub until-visits : Front (visitedDays (until q c)) (visitedDays q)
-    unfolding visitedDays
-    until-visits =
-        let f = front (spanLength q) (q .first) in
-        let same = bound (until q c) r (spanLength q) (c + 1 - q .first) (q .first) (omega arith) (omega arith) in
-        record { later = f .later; whole = f .whole ∙ ap (λ (t : List ℕ). t ++ f .later) same }
+  matching-are-visited x h = filtered-has (conditionsMet q) x (visitedDays q) (rw (matching-visited q r) h)

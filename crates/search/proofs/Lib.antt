@@ -2,8 +2,10 @@ pub mod Filter
 pub mod Circle
 pub mod Arc
 pub mod Skip
+pub mod Look
 pub mod Limit
+pub mod Putting
 pub mod Passes
-pub mod Entries
 pub mod Answers
 pub mod Laws
+pub mod Spans

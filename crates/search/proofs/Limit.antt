@@ -12,11 +12,11 @@ use Rattle.longitudes.specs.Longitudes.{circle}
 use Rattle.longitudes.proofs.Sun.{unrolled, unrolled-at, mono, days-most, days-least, day-least}
 use Rattle.query.specs.declared.Query.{Query}
 use Rattle.query.specs.Conditions.{arcInRange}
-use Rattle.query.specs.Query.{sunInArc, nextDay}
+use Rattle.query.specs.Query.{sunArc}
+use Rattle.search.specs.Look.{sunInArc, nextDay}
 use Rattle.search.specs.Days.{filtered, spanLength, span, visitedFrom, visitedDays, visitLimit}
 use Rattle.search.proofs.Circle.{past, circles, past-low, past-circles}
-use Rattle.query.proofs.Accepted.{sunArc}
-use Rattle.search.proofs.Arc.{fair, out-past, past-out, next-in, next-out}
+use Rattle.search.proofs.Arc.{in-circle, out-past, past-out, next-in, next-out}
 use Rattle.search.proofs.Skip.{visit-end, visit-more, filtered-visited}
 
 circles-of-sun : (s d e : ℕ) → unrolled d ≤ unrolled e → circles s d ≤ circles s e
@@ -120,7 +120,7 @@ module _ (q : Query) (r : arcInRange (sunArc q) ≡ true) where
       f = out-past q d e
 
       low : s ≤ circle
-      low = let a = fair (sunArc q) r (f .0) in omega arith
+      low = let a = in-circle (sunArc q) r (f .0) in omega arith
 
       near : circle ≤ past s d + 320 → circles s d + 1 ≤ circles s x
       near n = rw (w, near-step s d low n) (near-circle s d low n)

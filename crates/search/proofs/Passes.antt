@@ -1,247 +1,263 @@
--- The passes over the visited days: what holds before the visit of day d, and how a visit carries it on.
+-- The passes over the visited days: what holds before the visit of a day, and how a visit carries it on.
 -- Assumes nothing.
-use Prim.Native.Nat.{ℕ, suc, _+_, _*_, _-_, _≤_, _<_}
-use mathlib.Core.Path.{_≡_, refl, ap, ap₂, sym, _∙_}
-use mathlib.Core.Bool.{Bool, true, false, cond, false≢true}
-use mathlib.Core.List.{List, [], _∷_, _++_, append-assoc, append-nil}
+use Prim.Native.Nat.{ℕ, zero, suc, _+_, _-_, _≤_, _<_}
+use mathlib.Core.Path.{_≡_, refl, ap, sym, subst, _∙_}
+use mathlib.Core.Bool.{Bool, true, false}
+use mathlib.Core.List.{List, [], _∷_}
 use native.Mathlib.Omega.{arith}
 use native.Mathlib.Decide.{decLe}
-use lib.ListN.{length, drop, length-append, length-drop}
+use lib.ListN.{length, drop}
 use lib.Seq.{drop-drop}
+use borrow.Author.Tests.{le-leb}
 use Rattle.days.specs.Days.{lastDay}
+use Rattle.entries.specs.Entries.{capacity, withEntry}
+use Rattle.entries.proofs.Laws.{with-entry-length}
 use Rattle.query.specs.declared.Query.{Query}
-use Rattle.query.specs.declared.Examined.{Examined}
 use Rattle.query.specs.Conditions.{arcInRange}
-use Rattle.query.specs.Query.{matches, nextDay, examinedOf, refusalOf}
-use Rattle.search.specs.Days.{filtered, visitedDays, matchingDays, VisitAt, Tallied}
+use Rattle.query.specs.Query.{sunArc, conditionsMet, inSpan, refusalOf}
+use Rattle.query.proofs.Accepted.{accepted-by}
+use Rattle.search.specs.declared.Examined.{Examined}
+use Rattle.search.specs.declared.Place.{Place}
 use Rattle.search.specs.declared.Tally.{Tally}
-use Rattle.search.specs.Search.{entries, withEntry, withEntries}
-use Rattle.query.proofs.Accepted.{sunArc, accepted-by}
-use Rattle.search.proofs.Arc.{next-later}
+use Rattle.search.specs.Look.{nextDay, examinedOf}
+use Rattle.search.specs.Days.{filtered, visitedFrom, visitedDays, matchingDays}
+use Rattle.search.specs.Passes.{VisitAt, visitsFrom, matchesFrom, Reached, firstPlace, placeAfter, NoneAfter, withEntriesFrom, Scannable, LastMatch, Tallied}
+use Rattle.search.proofs.Arc.{next-after}
 use Rattle.search.proofs.Filter.{filtered-in, filtered-out, filtered-nil}
-use Rattle.query.proofs.Scan.{outside-unmatched, examined-at}
-use Rattle.search.proofs.Skip.{rest, rest-end, rest-more, skipped, matching-visited}
-use Rattle.search.proofs.Entries.{entries-length, entries-next}
+use Rattle.search.proofs.Skip.{rest-end, rest-more, visit-end, visit-more, skipped, outside-unmatched, matching-visited}
+use Rattle.search.proofs.Look.{examined-at}
 
--- the matching days from day d on
-abbrev ahead : Query → ℕ → List ℕ
-ahead q d = filtered (matches q) (rest q d)
-
--- what examining a day of the span tells: a day not past the last day there is, and the next day, which is later
+-- what the visit of a day of the span hands back: a day not past the last day there is, and the next day, which is later
 pub record Visit (q : Query) (d : ℕ) (seen : Examined) : Type 0 where
-  pub told : seen ≡ record { refusal = 0; matches = matches q d; next = nextDay q d }
+  pub handed : seen ≡ record { refusal = 0; matches = conditionsMet q d; next = nextDay q d }
   pub low : d ≤ lastDay
   pub later : d < seen .next
 
-pub visit : (q : Query) (d : ℕ) (seen : Examined) → refusalOf q ≡ 0 → d ≤ q .last → seen ≡ examinedOf q d → Visit q d seen
-visit q d seen e h s =
+pub in-span : (q : Query) (d : ℕ) → q .first ≤ d → d ≤ q .last → inSpan q d ≡ true
+in-span q d f h = rw (le-leb _ _ f, le-leb _ _ h)
+
+pub visit : (q : Query) (d : ℕ) (seen : Examined) → refusalOf q ≡ 0 → q .first ≤ d → d ≤ q .last → seen ≡ examinedOf q d → Visit q d seen
+visit q d seen e f h s =
     let a = accepted-by q e in
-    let low : d ≤ lastDay = omega (arith, a .last) in
-    let t : seen ≡ record { refusal = 0; matches = matches q d; next = nextDay q d } = s ∙ examined-at q d low in
-    record { told = t; low = low; later = rw t (next-later q (a .sun) d) }
+    let t : seen ≡ record { refusal = 0; matches = conditionsMet q d; next = nextDay q d } = s ∙ examined-at q d e (in-span q d f h) in
+    record { handed = t; low = omega (arith, a .last); later = rw t (next-after q (a .sun) d) }
 
--- n days matched, k were visited
-pub record Counting (q : Query) (d n k : ℕ) : Type 0 where
-  pub counted : n + length (ahead q d) ≡ length (filtered (matches q) (visitedDays q))
-  pub seen : k + length (rest q d) ≡ length (visitedDays q)
-  pub fewer : n ≤ k
-  pub gone : k + q .first ≤ d
+module _ (q : Query) (r : arcInRange (sunArc q) ≡ true) where
+  matches-in : (d : ℕ) → d ≤ q .last → conditionsMet q d ≡ true → matchesFrom q d ≡ d ∷ matchesFrom q (nextDay q d)
+  matches-in d h f = ap (filtered (conditionsMet q)) (rest-more q r d h) ∙ filtered-in (conditionsMet q) d (visitsFrom q (nextDay q d)) f
 
-counting-start : (q : Query) → Counting q (q .first) 0 0
-unfolding visitedDays
-counting-start q = omega arith
+  matches-out : (d : ℕ) → d ≤ q .last → conditionsMet q d ≡ false → matchesFrom q d ≡ matchesFrom q (nextDay q d)
+  matches-out d h f = ap (filtered (conditionsMet q)) (rest-more q r d h) ∙ filtered-out (conditionsMet q) d (visitsFrom q (nextDay q d)) f
 
--- what is left of the visited days after k of them is the visits from day d on
-abbrev Left : Query → ℕ → ℕ → Type 0
-Left q d k = drop k (visitedDays q) ≡ rest q d
+  reached-start : Reached q 0 (firstPlace q)
+  unfolding visitedDays
+  reached-start =
+      record {
+        visits = refl;
+        matching = matching-visited q r;
+        counted = omega (arith, ap length (matching-visited q r));
+        seen = omega arith;
+        fewer = omega arith;
+        gone = omega arith;
+      }
 
-left-start : (q : Query) → Left q (q .first) 0
-unfolding visitedDays
-left-start q = refl
+  module _ (n : ℕ) (place : Place) (h : place .day ≤ q .last) (c : Reached q n place) where
+    visits-next : drop (place .examined + 1) (visitedDays q) ≡ visitsFrom q (nextDay q (place .day))
+    visits-next = sym (drop-drop 1 (place .examined) (visitedDays q)) ∙ ap (drop 1) (c .visits ∙ rest-more q r (place .day) h)
 
--- after `latest` no day before d matches
+    reached-visit : VisitAt q (place .examined) (place .day)
+    reached-visit = c .visits ∙ rest-more q r (place .day) h ∙ ap (λ (t : List ℕ). place .day ∷ t) (sym visits-next)
+
+    reached-in : conditionsMet q (place .day) ≡ true → Reached q (n + 1) (placeAfter place (nextDay q (place .day)))
+    reached-in f =
+        let m = matches-in (place .day) h f in
+        record {
+          visits = visits-next;
+          matching = ap (drop 1) (sym m ∙ c .matching) ∙ drop-drop 1 n (matchingDays q);
+          counted = omega (arith, c .counted, ap length m);
+          seen = omega (arith, c .seen, ap length (rest-more q r (place .day) h));
+          fewer = omega (arith, c .fewer);
+          gone = omega (arith, c .gone, next-after q r (place .day));
+        }
+
+    reached-out : conditionsMet q (place .day) ≡ false → Reached q n (placeAfter place (nextDay q (place .day)))
+    reached-out f =
+        let m = matches-out (place .day) h f in
+        record {
+          visits = visits-next;
+          matching = sym m ∙ c .matching;
+          counted = omega (arith, c .counted, ap length m);
+          seen = omega (arith, c .seen, ap length (rest-more q r (place .day) h));
+          fewer = omega (arith, c .fewer);
+          gone = omega (arith, c .gone, next-after q r (place .day));
+        }
+
+  -- past the last day, and past the last match
+  none-ahead : (until : ℕ) → NoneAfter q until → (n d : ℕ) → until < d → filtered (conditionsMet q) (visitedFrom q n d) ≡ []
+  none-ahead until quiet zero d h = unfold visitedFrom filtered in refl
+  none-ahead until quiet (suc n) d h = go (decLe d (q .last)) (none-ahead until quiet n (nextDay q d) (omega (arith, next-after q r d)))
+    where
+      go : Dec (d ≤ q .last) → filtered (conditionsMet q) (visitedFrom q n (nextDay q d)) ≡ [] → filtered (conditionsMet q) (visitedFrom q (suc n) d) ≡ []
+      go (yes l) ih =
+          ap (filtered (conditionsMet q)) (visit-more q r n d l) ∙ filtered-out (conditionsMet q) d (visitedFrom q n (nextDay q d)) (quiet d h l) ∙ ih
+      go (no l) ih = ap (filtered (conditionsMet q)) (visit-end q r (suc n) d (omega arith)) ∙ filtered-nil (conditionsMet q)
+
+  between : (d m : ℕ) → d < m → m < nextDay q d → conditionsMet q m ≡ false
+  between d m h l =
+      ap (conditionsMet q) (omega arith)
+      ∙ outside-unmatched q (d + (m - d)) (skipped q r d (m - d) (omega arith) (omega arith))
+
+-- `latest` is a day of the span, and no day after it and before d matches
 pub record Latest (q : Query) (d latest : ℕ) : Type 0 where
   pub from-first : q .first ≤ latest
   pub to-last : latest ≤ q .last
-  pub quiet : (m : ℕ) → latest < m → m < d → matches q m ≡ false
-
-latest-start : (q : Query) → q .first ≤ q .last → Latest q (q .first) (q .first)
-latest-start q h = record { from-first = omega arith; to-last = h; quiet = λ m a b. absurd (omega arith) }
-
--- the list l, now m, has the entries of the i days that matched
-pub record Writing (q : Query) (l m : List ℕ) (d i : ℕ) : Type 0 where
-  pub done : List ℕ
-  pub whole : done ++ ahead q d ≡ matchingDays q
-  pub size : length done ≡ i
-  pub left : m ≡ entries done ++ drop (4 * i) l
-
--- a pass that writes, and one that leaves the list as it was
-pub Progress : Bool → Query → List ℕ → List ℕ → ℕ → ℕ → Type 0
-Progress true q l m d i = Writing q l m d i
-Progress false q l m d i = m ≡ l
+  pub quiet : (m : ℕ) → latest < m → m < d → conditionsMet q m ≡ false
 
 module _ (q : Query) (r : arcInRange (sunArc q) ≡ true) where
-  ahead-in : (d : ℕ) → d ≤ q .last → matches q d ≡ true → ahead q d ≡ d ∷ ahead q (nextDay q d)
-  ahead-in d h f = ap (filtered (matches q)) (rest-more q r d h) ∙ filtered-in (matches q) d (rest q (nextDay q d)) f
+  latest-start : q .first ≤ q .last → (d : ℕ) → d ≡ q .first → Latest q d d
+  latest-start h d e = record { from-first = omega arith; to-last = omega arith; quiet = λ m a b. absurd (omega arith) }
 
-  ahead-out : (d : ℕ) → d ≤ q .last → matches q d ≡ false → ahead q d ≡ ahead q (nextDay q d)
-  ahead-out d h f = ap (filtered (matches q)) (rest-more q r d h) ∙ filtered-out (matches q) d (rest q (nextDay q d)) f
+  latest-in : (d : ℕ) → d ≤ q .last → q .first ≤ d → Latest q (nextDay q d) d
+  latest-in d h f = record { from-first = f; to-last = h; quiet = λ m a b. between q r d m a b }
 
-  ahead-end : (d : ℕ) → q .last < d → ahead q d ≡ []
-  ahead-end d h = ap (filtered (matches q)) (rest-end q r d h) ∙ filtered-nil (matches q)
-
-  module _ (d n k : ℕ) (h : d ≤ q .last) (c : Counting q d n k) where
-    counting-in : matches q d ≡ true → Counting q (nextDay q d) (n + 1) (k + 1)
-    counting-in f = omega (arith, next-later q r d, ap length (ahead-in d h f), ap length (rest-more q r d h))
-
-    counting-out : matches q d ≡ false → Counting q (nextDay q d) n (k + 1)
-    counting-out f = omega (arith, next-later q r d, ap length (ahead-out d h f), ap length (rest-more q r d h))
-
-  counting-end : (d n k : ℕ) → q .last < d → Counting q d n k → (n ≡ length (matchingDays q)) × (k ≡ length (visitedDays q))
-  counting-end d n k h c = omega (arith, ap length (ahead-end d h), ap length (rest-end q r d h), ap length (matching-visited q r))
-
-  left-next : (d k : ℕ) → d ≤ q .last → Left q d k → Left q (nextDay q d) (k + 1)
-  left-next d k h e = sym (drop-drop 1 k (visitedDays q)) ∙ ap (drop 1) (e ∙ rest-more q r d h)
-
-  left-visit : (d k : ℕ) → d ≤ q .last → Left q d k → VisitAt q k d
-  left-visit d k h e = e ∙ rest-more q r d h ∙ ap (λ (t : List ℕ). d ∷ t) (sym (left-next d k h e))
-
-  between : (d m : ℕ) → d < m → m < nextDay q d → matches q m ≡ false
-  between d m h l =
-      ap (matches q) (omega arith)
-      ∙ outside-unmatched q (d + (m - d)) (skipped q r d (m - d) (omega arith) (omega arith))
-
-  latest-in : (d latest : ℕ) → d ≤ q .last → q .first ≤ d → Latest q (nextDay q d) d
-  latest-in d latest h f = record { from-first = f; to-last = h; quiet = λ m a b. between d m a b }
-
-  latest-out : (d latest : ℕ) → matches q d ≡ false → Latest q d latest → Latest q (nextDay q d) latest
+  latest-out : (d latest : ℕ) → conditionsMet q d ≡ false → Latest q d latest → Latest q (nextDay q d) latest
   latest-out d latest f c =
       record { from-first = c .from-first; to-last = c .to-last; quiet = λ m a b. before m a b (decLe (suc m) d) (decLe (suc d) m) }
     where
-      before : (m : ℕ) → latest < m → m < nextDay q d → Dec (suc m ≤ d) → Dec (suc d ≤ m) → matches q m ≡ false
+      before : (m : ℕ) → latest < m → m < nextDay q d → Dec (suc m ≤ d) → Dec (suc d ≤ m) → conditionsMet q m ≡ false
       before m a b (yes l) u = c .quiet m a (omega arith)
-      before m a b (no l) (yes u) = between d m (omega arith) b
-      before m a b (no l) (no u) = ap (matches q) (omega arith) ∙ f
+      before m a b (no l) (yes u) = between q r d m (omega arith) b
+      before m a b (no l) (no u) = ap (conditionsMet q) (omega arith) ∙ f
 
-  tallied : (d : ℕ) (tally : Tally) → q .last < d → Counting q d (tally .length) (tally .examined) → Latest q d (tally .latest) → Tallied q tally
-  tallied d tally h c l =
-      let e = counting-end d (tally .length) (tally .examined) h c in
+  latest-end : (until : ℕ) → NoneAfter q until → (d latest : ℕ) → until < d → Latest q d latest → LastMatch q latest
+  latest-end until quiet d latest h c =
+      record { from-first = c .from-first; to-last = c .to-last; none-later = λ m a b. after-match m a b (decLe (suc m) d) }
+    where
+      after-match : (m : ℕ) → latest < m → m ≤ q .last → Dec (suc m ≤ d) → conditionsMet q m ≡ false
+      after-match m a b (yes l) = c .quiet m a (omega arith)
+      after-match m a b (no l) = quiet m (omega arith) b
+
+-- all that holds of a pass before a visit: n days match so far, of which those for which the output has room were put, and `resume` is the place after the last of these
+pub record Scanning (q : Query) (start : Place) (count : ℕ) (output output′ : List ℕ) (place : Place) (n latest : ℕ) (resume : Place) : Type 0 where
+  pub reached : Reached q n place
+  pub early : n ≤ capacity output → Reached q n resume
+  pub late : capacity output ≤ n → Reached q (capacity output) resume
+  pub last-match : start .day ≡ q .first → Latest q (place .day) latest
+  pub put : withEntriesFrom output′ n (matchesFrom q (place .day)) ≡ withEntriesFrom output count (drop count (matchingDays q))
+  pub size : length output′ ≡ length output
+
+module _ (q : Query) (start : Place) (count : ℕ) (output : List ℕ) (e : refusalOf q ≡ 0) where
+  pub scanning-start : Reached q count start → count ≤ capacity output → Scanning q start count output output start count (start .day) start
+  scanning-start c h =
       record {
-        count = e .0;
-        visits = e .1;
-        from-first = l .from-first;
-        to-last = l .to-last;
-        none-later = λ m a b. l .quiet m a (omega arith);
+        reached = c;
+        early = λ l. c;
+        late = λ l. subst (λ (k : ℕ). Reached q k start) (omega arith) c;
+        last-match = λ f. latest-start q (accepted-by q e .sun) (accepted-by q e .first) (start .day) f;
+        put = ap (withEntriesFrom output count) (c .matching);
+        size = refl;
       }
 
-  progress-start : (writing : Bool) (l : List ℕ) → Progress writing q l l (q .first) 0
-  unfolding Progress visitedDays entries
-  progress-start true l = record { done = []; whole = matching-visited q r; size = refl; left = refl }
-  progress-start false l = refl
-
-  module _ (l m : List ℕ) (d i : ℕ) where
-    size-up : Writing q l m d i → i + length (ahead q d) ≡ length (matchingDays q)
-    size-up w = omega (arith, w .size, simp length-append at (ap length (w .whole)))
-
-    written-length : 4 * length (matchingDays q) ≤ length l → Writing q l m d i → length m ≡ length l
-    written-length room w = ap length (w .left) ∙ simp (length-append, length-drop) (omega (arith, entries-length (w .done), w .size, size-up w))
-
-    progress-length : (writing : Bool) → (writing ≡ true → 4 * length (matchingDays q) ≤ length l) → Progress writing q l m d i → length m ≡ length l
-    unfolding Progress
-    progress-length true room w = written-length (room refl) w
-    progress-length false room w = ap length w
-
-    progress-end : (writing : Bool) → q .last < d → Progress writing q l m d i → m ≡ cond writing (withEntries (matchingDays q) l) l
-    unfolding Progress
-    progress-end true h w =
-        let e : w .done ≡ matchingDays q = sym (append-nil (w .done)) ∙ ap (λ (t : List ℕ). w .done ++ t) (sym (ahead-end d h)) ∙ w .whole in
-        w .left ∙ ap₂ (λ (a b : List ℕ). a ++ b) (ap entries e) (ap (λ (n : ℕ). drop (4 * n) l) (sym (w .size) ∙ ap length e))
-    progress-end false h w = w
-
-    module _ (h : d ≤ q .last) where
-      progress-room : (writing : Bool) → (writing ≡ true → 4 * length (matchingDays q) ≤ length l) → matches q d ≡ true → Progress writing q l m d i → writing ≡ true → 4 * i + 4 ≤ length m
-      unfolding Progress
-      progress-room true room f w e = omega (arith, written-length (room refl) w, size-up w, ap length (ahead-in d h f), room refl)
-      progress-room false room f w e = absurd (false≢true e)
-
-      progress-in : (writing : Bool) (x : List ℕ) → matches q d ≡ true → x ≡ cond writing (withEntry m (4 * i) d) m → Progress writing q l m d i → Progress writing q l x (nextDay q d) (i + 1)
-      unfolding Progress
-      progress-in true x f e w =
-          record {
-            done = w .done ++ (d ∷ []);
-            whole = append-assoc (w .done) (d ∷ []) (ahead q (nextDay q d)) ∙ ap (λ (t : List ℕ). w .done ++ t) (sym (ahead-in d h f)) ∙ w .whole;
-            size = simp length-append (omega (arith, w .size));
-            left = e ∙ entries-next (w .done) d m l i (w .size) (w .left);
-          }
-      progress-in false x f e w = e ∙ w
-
-      progress-out : (writing : Bool) → matches q d ≡ false → Progress writing q l m d i → Progress writing q l m (nextDay q d) i
-      unfolding Progress
-      progress-out true f w =
-          record {
-            done = w .done;
-            whole = ap (λ (t : List ℕ). w .done ++ t) (sym (ahead-out d h f)) ∙ w .whole;
-            size = w .size;
-            left = w .left;
-          }
-      progress-out false f w = w
-
--- all that holds of a pass before the visit of day d
-pub record Scanning (q : Query) (writing : Bool) (l m : List ℕ) (d n k latest : ℕ) : Type 0 where
-  pub counting : Counting q d n k
-  pub left : Left q d k
-  pub last-match : Latest q d latest
-  pub progress : Progress writing q l m d n
-
-module _ (q : Query) (writing : Bool) (l : List ℕ) (e : refusalOf q ≡ 0) (room : writing ≡ true → 4 * length (matchingDays q) ≤ length l) where
-  pub scanning-start : Scanning q writing l l (q .first) 0 0 (q .first)
-  scanning-start =
-      let a = accepted-by q e in
-      record {
-        counting = counting-start q;
-        left = left-start q;
-        last-match = latest-start q (a .first);
-        progress = progress-start q (a .sun) writing l;
-      }
-
-  module _ (m : List ℕ) (d n k latest : ℕ) (s : Scanning q writing l m d n k latest) where
-    pub scanning-length : length m ≡ length l
-    scanning-length = progress-length q (accepted-by q e .sun) l m d n writing room (s .progress)
-
-    pub scanning-end : (tally : Tally) → q .last < d → tally ≡ record { length = n; examined = k; latest = latest } → Tallied q tally × (m ≡ cond writing (withEntries (matchingDays q) l) l)
-    scanning-end tally h t =
+  module _ (output′ : List ℕ) (place : Place) (n latest : ℕ) (resume : Place) (s : Scanning q start count output output′ place n latest resume) where
+    pub scanning-end :
+        (until : ℕ) → until ≤ q .last → NoneAfter q until → until < place .day →
+        Tallied q start until (capacity output) (record { length = n; examined = place .examined; latest = latest; resume = resume })
+        × (output′ ≡ withEntriesFrom output count (drop count (matchingDays q)))
+    scanning-end until h quiet d =
         let r = accepted-by q e .sun in
-        (rw t (tallied q r d (record { length = n; examined = k; latest = latest }) h (s .counting) (s .last-match)), progress-end q r l m d n writing h (s .progress))
+        let none = none-ahead q r until quiet (q .last + 1 - place .day) (place .day) d in (
+          record {
+            count = omega (arith, s .reached .counted, ap length none);
+            visits = λ f. omega (arith, s .reached .seen, ap length (rest-end q r (place .day) (omega arith)));
+            last-match = λ f. latest-end q r until quiet (place .day) latest d (s .last-match f);
+            resumes = λ l. s .late l;
+          },
+          nothing-more none ∙ s .put,
+        )
+      where
+        nothing-more : matchesFrom q (place .day) ≡ [] → output′ ≡ withEntriesFrom output′ n (matchesFrom q (place .day))
+        nothing-more f = sym (ap (withEntriesFrom output′ n) f ∙ unfold withEntriesFrom in refl)
 
-    module _ (h : d ≤ q .last) where
-      pub scanning-visit : VisitAt q k d
-      scanning-visit = left-visit q (accepted-by q e .sun) d k h (s .left)
+    module _ (h : place .day ≤ q .last) where
+      pub scanning-visit : VisitAt q (place .examined) (place .day)
+      scanning-visit = reached-visit q (accepted-by q e .sun) n place h (s .reached)
 
-      module _ (seen : Examined) (v : Visit q d seen) where
-        matched : (b : Bool) → seen .matches ≡ b → matches q d ≡ b
-        matched b f = sym (ap (λ (x : Examined). x .matches) (v .told)) ∙ f
+      module _ (seen : Examined) (v : Visit q (place .day) seen) where
+        matched : (b : Bool) → seen .matches ≡ b → conditionsMet q (place .day) ≡ b
+        matched b f = sym (ap (λ (x : Examined). x .matches) (v .handed)) ∙ f
 
-        pub scanning-room : seen .matches ≡ true → writing ≡ true → 4 * n + 4 ≤ length m
-        scanning-room f w = progress-room q (accepted-by q e .sun) l m d n h writing room (matched true f) (s .progress) w
-
-        pub scanning-in : (x : List ℕ) → seen .matches ≡ true → x ≡ cond writing (withEntry m (4 * n) d) m → Scanning q writing l x (seen .next) (n + 1) (k + 1) d
-        scanning-in x f w =
+        pub scanning-in :
+            (output″ : List ℕ) (resume′ : Place) →
+            seen .matches ≡ true →
+            output″ ≡ withEntry output′ n (place .day) →
+            (n < capacity output → resume′ ≡ placeAfter place (seen .next)) →
+            (capacity output ≤ n → resume′ ≡ resume) →
+            Scanning q start count output output″ (placeAfter place (seen .next)) (n + 1) (place .day) resume′
+        scanning-in output″ resume′ f w put-here not-put =
             let r = accepted-by q e .sun in
-            rw (v .told)
+            let next = reached-in q r n place h (s .reached) (matched true f) in
+            let after-it = ap (λ (x : Examined). x .next) (v .handed) in
+            let here : n < capacity output → resume′ ≡ placeAfter place (nextDay q (place .day)) = λ l. put-here l ∙ ap (placeAfter place) after-it in
+            rw after-it
             (record {
-              counting = counting-in q r d n k h (s .counting) (matched true f);
-              left = left-next q r d k h (s .left);
-              last-match = latest-in q r d latest h (omega (arith, s .counting .gone));
-              progress = progress-in q r l m d n h writing x (matched true f) w (s .progress);
+              reached = next;
+              early = λ l. rw (here (omega arith)) next;
+              late = λ l. full next here not-put (decLe (suc n) (capacity output)) l;
+              last-match = λ g. latest-in q r (place .day) h (omega (arith, s .reached .gone));
+              put = rw w (one-more r f) ∙ s .put;
+              size = ap length w ∙ with-entry-length output′ n (place .day) ∙ s .size;
             })
+          where
+            full :
+                Reached q (n + 1) (placeAfter place (nextDay q (place .day))) →
+                (n < capacity output → resume′ ≡ placeAfter place (nextDay q (place .day))) →
+                (capacity output ≤ n → resume′ ≡ resume) →
+                Dec (suc n ≤ capacity output) →
+                capacity output ≤ n + 1 →
+                Reached q (capacity output) resume′
+            full next here not (yes l) g = rw (here l) (subst (λ (k : ℕ). Reached q k (placeAfter place (nextDay q (place .day)))) (omega arith) next)
+            full next here not (no l) g = rw (not (omega arith)) (s .late (omega arith))
 
-        pub scanning-out : seen .matches ≡ false → Scanning q writing l m (seen .next) n (k + 1) latest
+            one-more :
+                arcInRange (sunArc q) ≡ true →
+                seen .matches ≡ true →
+                withEntriesFrom (withEntry output′ n (place .day)) (n + 1) (matchesFrom q (nextDay q (place .day))) ≡ withEntriesFrom output′ n (matchesFrom q (place .day))
+            one-more r f = sym (ap (withEntriesFrom output′ n) (matches-in q r (place .day) h (matched true f)) ∙ unfold withEntriesFrom in refl)
+
+        pub scanning-out : seen .matches ≡ false → Scanning q start count output output′ (placeAfter place (seen .next)) n latest resume
         scanning-out f =
             let r = accepted-by q e .sun in
-            rw (v .told)
+            let after-it = ap (λ (x : Examined). x .next) (v .handed) in
+            rw after-it
             (record {
-              counting = counting-out q r d n k h (s .counting) (matched false f);
-              left = left-next q r d k h (s .left);
-              last-match = latest-out q r d latest (matched false f) (s .last-match);
-              progress = progress-out q r l m d n h writing (matched false f) (s .progress);
+              reached = reached-out q r n place h (s .reached) (matched false f);
+              early = s .early;
+              late = s .late;
+              last-match = λ g. latest-out q r (place .day) latest (matched false f) (s .last-match g);
+              put = ap (withEntriesFrom output′ n) (sym (matches-out q r (place .day) h (matched false f))) ∙ s .put;
+              size = s .size;
             })
+
+-- a pass over the whole span can begin
+pub scannable-first : (q : Query) (start : Place) (room : ℕ) → refusalOf q ≡ 0 → start ≡ firstPlace q → Scannable q start 0 (q .last) room
+scannable-first q start room e f =
+    record {
+      accepts = e;
+      reached = rw f (reached-start q (accepted-by q e .sun));
+      fits = omega arith;
+      ends = omega arith;
+      none-later = λ m a b. absurd (omega arith);
+    }
+
+-- a pass that found more days than there was room for can be resumed, up to its last match
+pub scannable-rest :
+    (q : Query) (start : Place) (room larger : ℕ) (tally : Tally) →
+    refusalOf q ≡ 0 →
+    start ≡ firstPlace q →
+    Tallied q start (q .last) room tally →
+    room ≤ tally .length →
+    room ≤ larger →
+    Scannable q (tally .resume) room (tally .latest) larger
+scannable-rest q start room larger tally e f t l m =
+    let last = t .last-match (ap (λ (p : Place). p .day) f) in
+    record { accepts = e; reached = t .resumes l; fits = m; ends = last .to-last; none-later = last .none-later }

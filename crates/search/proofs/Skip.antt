@@ -10,12 +10,12 @@ use lib.Dec.{leb}
 use borrow.Author.Tests.{leb-true, leb-false, le-leb, lt-leb}
 use Rattle.query.specs.declared.Query.{Query}
 use Rattle.query.specs.Conditions.{arcInRange}
-use Rattle.query.proofs.Scan.{outside-unmatched}
-use Rattle.query.specs.Query.{sunInArc, matches, nextDay}
+use Rattle.query.specs.Query.{sunArc, conditionsMet}
+use Rattle.query.proofs.Conditions.{sun-not-met}
+use Rattle.search.specs.Look.{sunInArc, nextDay}
 use Rattle.search.specs.Days.{filtered, daysFrom, spanLength, span, matchingDays, visitedFrom, visitedDays}
 use Rattle.search.proofs.Circle.{past, past-grows}
-use Rattle.query.proofs.Accepted.{sunArc}
-use Rattle.search.proofs.Arc.{fair, out-past, past-out, next-in, next-out, next-later}
+use Rattle.search.proofs.Arc.{in-circle, out-past, past-out, next-in, next-out, next-after}
 use Rattle.search.proofs.Filter.{filtered-at, filtered-cons, filtered-front}
 
 -- the visits from day d on
@@ -31,7 +31,7 @@ module _ (q : Query) (r : arcInRange (sunArc q) ≡ true) where
       go true e = absurd (omega (arith, next-in q d e))
       go false e =
           let f = out-past q d e in
-          let a = fair (sunArc q) r (f .0) in
+          let a = in-circle (sunArc q) r (f .0) in
           let g : past (sunArc q .start) d ≤ past (sunArc q .start) (d + j) = past-grows (sunArc q .start) d j (omega arith) (omega (arith, next-out q r d e)) in
           past-out q (d + j) (f .0) (omega arith)
 
@@ -50,7 +50,7 @@ module _ (q : Query) (r : arcInRange (sunArc q) ≡ true) where
   bound zero m d h k = visit-end zero d (omega arith) ∙ sym (visit-end m d (omega arith))
   bound (suc n) zero d h k = visit-end (suc n) d (omega arith) ∙ sym (visit-end zero d (omega arith))
   bound (suc n) (suc m) d h k =
-      go (decLe d (q .last)) (bound n m (nextDay q d) (omega (arith, next-later q r d)) (omega (arith, next-later q r d)))
+      go (decLe d (q .last)) (bound n m (nextDay q d) (omega (arith, next-after q r d)) (omega (arith, next-after q r d)))
     where
       go : Dec (d ≤ q .last) → visitedFrom q n (nextDay q d) ≡ visitedFrom q m (nextDay q d) → visitedFrom q (suc n) d ≡ visitedFrom q (suc m) d
       go (yes l) ih = visit-more n d l ∙ ap (λ (l : List ℕ). d ∷ l) ih ∙ sym (visit-more m d l)
@@ -63,13 +63,13 @@ module _ (q : Query) (r : arcInRange (sunArc q) ≡ true) where
   rest-more d h =
       bound (q .last + 1 - d) (suc (q .last - d)) d (omega arith) (omega arith)
       ∙ visit-more (q .last - d) d h
-      ∙ ap (λ (l : List ℕ). d ∷ l) (bound (q .last - d) (q .last + 1 - nextDay q d) (nextDay q d) (omega (arith, next-later q r d)) (omega arith))
+      ∙ ap (λ (l : List ℕ). d ∷ l) (bound (q .last - d) (q .last + 1 - nextDay q d) (nextDay q d) (omega (arith, next-after q r d)) (omega arith))
 
   module _ (p : ℕ → Bool) (inside : (d : ℕ) → sunInArc q d ≡ false → p d ≡ false) where
     -- what is left of the span after d, and of the span from the next day on
     after : (d : ℕ) → filtered p (daysFrom (suc d) (q .last - d)) ≡ filtered p (daysFrom (nextDay q d) (q .last + 1 - nextDay q d))
     after d =
-        let m : d < nextDay q d = next-later q r d in
+        let m : d < nextDay q d = next-after q r d in
         filtered-front p (nextDay q d - suc d) (suc d) (q .last - d)
         (λ i l. ap p (omega arith) ∙ inside (d + (i + 1)) (skipped d (i + 1) (omega arith) (omega arith)))
         ∙ filtered-at p _ _ (nextDay q d) (q .last + 1 - nextDay q d) (omega arith) (omega arith)
@@ -79,7 +79,7 @@ module _ (q : Query) (r : arcInRange (sunArc q) ≡ true) where
     filtered-visits zero d h = filtered-at p d 0 d (q .last + 1 - d) refl (omega arith)
     filtered-visits (suc n) d h =
         go (leb d (q .last)) refl
-        (filtered-visits n (nextDay q d) (omega (arith, next-later q r d)))
+        (filtered-visits n (nextDay q d) (omega (arith, next-after q r d)))
       where
         go :
             (b : Bool) →
@@ -95,6 +95,11 @@ module _ (q : Query) (r : arcInRange (sunArc q) ≡ true) where
     unfolding visitedDays
     filtered-visited = filtered-visits (spanLength q) (q .first) (omega arith)
 
-pub matching-visited : (q : Query) → arcInRange (sunArc q) ≡ true → filtered (matches q) (visitedDays q) ≡ matchingDays q
+-- a day outside the Sun's arc does not meet the conditions
+pub outside-unmatched : (q : Query) (n : ℕ) → sunInArc q n ≡ false → conditionsMet q n ≡ false
+unfolding sunInArc
+outside-unmatched q n e = sun-not-met q n e
+
+pub matching-visited : (q : Query) → arcInRange (sunArc q) ≡ true → filtered (conditionsMet q) (visitedDays q) ≡ matchingDays q
 unfolding matchingDays
-matching-visited q r = filtered-visited q r (matches q) (outside-unmatched q)
+matching-visited q r = filtered-visited q r (conditionsMet q) (outside-unmatched q)

@@ -1,2 +1,5 @@
+pub mod Look
 pub mod Days
 pub mod Search
+pub mod Passes
+pub mod Spans

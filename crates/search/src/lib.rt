@@ -1,18 +1,38 @@
-// The search: every day that matches a query, written to a list of bytes, or nothing.
+// The search: every day that matches a query, written to a list of bytes, or nothing; and the look that it goes by.
+use days::Day;
 use days::refusal;
-use query::Examined;
+use longitudes::Body;
+use longitudes::CIRCLE;
+use query::Asked;
 use query::Query;
 ghost use mathlib.Core.Path.{_≡_};
-ghost use mathlib.Core.Bool.{true, cond};
-ghost use Prim.Native.Nat.{_+_, _*_, _≤_, _<_};
-ghost use lib.ListN.{length};
-ghost use Rattle.days.specs.Days.{lastDay};
-ghost use Rattle.query.specs.Query.{refusalOf, examinedOf};
-ghost use Rattle.search.specs.Days.{until, matchingDays, VisitAt, Tallied};
-ghost use Rattle.search.specs.Search.{withEntry, withEntries, entryAt, Measured, Searched};
+ghost use mathlib.Core.Bool.{true};
+ghost use Prim.Native.Nat.{_+_, _≤_};
+ghost use lib.Dec.{eqb};
+ghost use lib.ListN.{length, drop};
+ghost use Rattle.days.specs.Days.{lastDay, weekdayOn};
+ghost use Rattle.entries.specs.Entries.{capacity};
+ghost use Rattle.query.specs.Conditions.{meets};
+ghost use Rattle.query.specs.Query.{inSpan, refusalOf};
+ghost use Rattle.search.specs.Look.{notExamined, examinedOf};
+ghost use Rattle.search.specs.Days.{matchingDays};
+ghost use Rattle.search.specs.Search.{Measured, Searched};
+ghost use Rattle.search.specs.Passes.{examinedAnyDay, VisitAt, firstPlace, placeAfter, Scannable, withEntriesFrom, Tallied};
 
-// The bytes of an entry of the list.
-const ENTRY: usize = 4;
+// The most that the mean Sun advances in a day, in seconds of arc.
+const SUN_ADVANCE: u32 = 3549;
+
+// How many of the matching days are kept beside a list that may be too short for them.
+const KEPT: usize = 192;
+
+const KEPT_BYTES: usize = entries::ENTRY_BYTES * KEPT;
+
+// Whether a day matches, and the day that the walk takes next.
+pub struct Examined {
+    pub refusal: u32,
+    pub matches: bool,
+    pub next: u32,
+}
 
 // How many days match, and how many were examined to find them.
 pub struct Found {
@@ -21,50 +41,171 @@ pub struct Found {
     pub examined: u32,
 }
 
-// What one pass over the visited days finds; `latest` is the last day that matched, or the first day of the span.
-struct Tally {
-    length: u32,
-    examined: u32,
-    latest: u32,
-}
-
-fn put_day(list: &mut [u8], at: usize, day: u32)
-    requires { ⌜ at + 4 ≤ length (now list) ⌝ }
-    ensures { λ _. ⌜ now (list .exit) ≡ withEntry (now (list .entry)) at day ⌝ }
-{
-    list[at] = (day % 256) as u8;
-    list[at + 1] = (day / 256 % 256) as u8;
-    list[at + 2] = (day / 65536 % 256) as u8;
-    list[at + 3] = (day / 16777216 % 256) as u8;
-}
-
-fn put_if(writing: bool, list: &mut [u8], at: usize, day: u32)
-    requires { ⌜ (writing ≡ true → at + 4 ≤ length (now list)) ⌝ }
-    ensures { λ _. ⌜ now (list .exit) ≡ cond writing (withEntry (now (list .entry)) at day) (now (list .entry)) ⌝ }
-{
-    if writing {
-        put_day(list, at, day);
-    }
-}
-
 // Where a pass is: the day to examine, and how many were examined before it.
 struct Place {
     day: u32,
     examined: u32,
 }
 
+// What one pass over the visited days finds; `latest` is the last day that matched, or the day that it began with, and `resume` the place after the last day that was put into the output.
+struct Tally {
+    length: u32,
+    examined: u32,
+    latest: u32,
+    resume: Place,
+}
+
+impl Examined {
+    fn accepted(matches: bool, next: u32) -> Examined
+        ensures { λ r. ⌜ r ≡ record { refusal = 0; matches = matches; next = next } ⌝ }
+    {
+        Examined {
+            refusal: refusal::NONE,
+            matches,
+            next,
+        }
+    }
+
+    fn refused(refusal: u32) -> Examined
+        ensures { λ r. ⌜ r ≡ notExamined refusal ⌝ }
+    {
+        Examined {
+            refusal,
+            matches: false,
+            next: 0,
+        }
+    }
+}
+
+impl Found {
+    fn counted(refusal: u32, tally: Tally) -> Found
+        ensures { λ f. ⌜ f ≡ record { refusal = refusal; length = tally .length; examined = tally .examined } ⌝ }
+    {
+        Found {
+            refusal,
+            length: tally.length,
+            examined: tally.examined,
+        }
+    }
+
+    fn refused(refusal: u32) -> Found
+        ensures { λ f. ⌜ f ≡ record { refusal = refusal; length = 0; examined = 0 } ⌝ }
+    {
+        Found {
+            refusal,
+            length: 0,
+            examined: 0,
+        }
+    }
+}
+
+// Whether a day has the weekday: seven divides its number less the weekday. The compiler makes one product of that, where the weekday itself takes a division.
+fn has_weekday(number: u32, weekday: u32) -> bool
+    requires { ⌜ number ≤ lastDay ⌝ }
+    ensures { λ r. ⌜ r ≡ eqb (weekdayOn number) weekday ⌝ }
+{
+    if 6 < weekday {
+        return false;
+    }
+    (number + 7 - weekday) % 7 == 0
+}
+
+fn weekday_met(asked: Asked, number: u32) -> bool
+    requires { ⌜ number ≤ lastDay ⌝ }
+    ensures { λ r. ⌜ r ≡ meets asked (weekdayOn number) ⌝ }
+{
+    if asked.given {
+        has_weekday(number, asked.value)
+    } else {
+        true
+    }
+}
+
+// The look at a day, in the span or not: the only way to longitudes and conditions. It reckons them for the day given and for no other. The Sun's arc comes first, since it
+// decides the next day, then the weekday where it decides. (The calls of `others_met` are two, so that the compiler leaves it out of the scan's loop: most days do not come to it.)
+fn examine_any_day(query: Query, day: u32) -> Examined
+    requires { ⌜ refusalOf query ≡ 0 ⌝ }
+    ensures { λ r. ⌜ r ≡ examinedAnyDay query day ⌝ }
+{
+    let found = Day::from_number(day);
+    if found.refusal != refusal::NONE {
+        return Examined::refused(found.refusal);
+    }
+    let pair = found.day;
+    let asked = query.weekday;
+    let more = query::asks_more(query);
+    let arc = query.arcs[0];
+    if !arc.given {
+        if !weekday_met(asked, day) {
+            return Examined::accepted(false, day + 1);
+        }
+        if !more {
+            return Examined::accepted(true, day + 1);
+        }
+        return Examined::accepted(query::others_met(query, pair), day + 1);
+    }
+    let sun = longitudes::mean_longitude(Body::Sun, pair);
+    let past = longitudes::difference(sun.number, arc.start);
+    if past < arc.width {
+        if !weekday_met(asked, day) {
+            return Examined::accepted(false, day + 1);
+        }
+        if !more {
+            return Examined::accepted(true, day + 1);
+        }
+        return Examined::accepted(query::others_met(query, pair), day + 1);
+    }
+    let ahead = CIRCLE - past;
+    Examined::accepted(false, day + (ahead + (SUN_ADVANCE - 1)) / SUN_ADVANCE)
+}
+
+fn in_span(query: Query, day: u32) -> bool
+    ensures { λ r. ⌜ r ≡ inSpan query day ⌝ }
+{
+    if query.first <= day {
+        day <= query.last
+    } else {
+        false
+    }
+}
+
+// Paper 01's look: whether a day is one of the span that meets all conditions, and the day that the walk takes next. It is refused as the search is.
+pub fn examine(query: Query, day: u32) -> Examined
+    ensures { λ r. ⌜ r ≡ examinedOf query day ⌝ }
+{
+    let refusal = query.refusal();
+    if refusal != refusal::NONE {
+        // A day that is none comes before what the query is refused for.
+        if Day::LAST < day {
+            return Examined::refused(refusal::OUT_OF_RANGE);
+        }
+        return Examined::refused(refusal);
+    }
+    let seen = examine_any_day(query, day);
+    if in_span(query, day) {
+        return seen;
+    }
+    Examined {
+        refusal: seen.refusal,
+        matches: false,
+        next: seen.next,
+    }
+}
+
 // The search's only way to examine a day. By what it requires, that is the day whose turn it is in paper 01's walk and no other.
 fn visit(query: Query, place: Place) -> Examined
+    requires { ⌜ refusalOf query ≡ 0 ⌝ }
+    requires { ⌜ inSpan query (place .day) ≡ true ⌝ }
     requires { ⌜ VisitAt query (place .examined) (place .day) ⌝ }
     ensures { λ r. ⌜ r ≡ examinedOf query (place .day) ⌝ }
 {
-    query::examine(query, place.day)
+    examine_any_day(query, place.day)
 }
 
 // The place after a visit: the day handed back, with one more examined before it.
-fn onward(place: Place, seen: Examined) -> Place
+fn next_place(place: Place, seen: Examined) -> Place
     requires { ⌜ place .examined ≤ lastDay ⌝ }
-    ensures { λ r. ⌜ r ≡ record { day = seen .next; examined = place .examined + 1 } ⌝ }
+    ensures { λ r. ⌜ r ≡ placeAfter place (seen .next) ⌝ }
 {
     Place {
         day: seen.next,
@@ -72,27 +213,38 @@ fn onward(place: Place, seen: Examined) -> Place
     }
 }
 
-// One pass over the visited days: it counts, and where `writing` is set it writes the matching days to the list too.
-fn scan(query: Query, writing: bool, list: &mut [u8]) -> Tally
-    requires { ⌜ refusalOf query ≡ 0 ⌝ }
-    requires { ⌜ (writing ≡ true → 4 * length (matchingDays query) ≤ length (now list)) ⌝ }
-    ensures { λ t. ⌜ Tallied query t ⌝ }
-    ensures { λ _. ⌜ now (list .exit) ≡ cond writing (withEntries (matchingDays query) (now (list .entry))) (now (list .entry)) ⌝ }
+fn first_place(query: Query) -> Place
+    ensures { λ r. ⌜ r ≡ firstPlace query ⌝ }
 {
-    let last = query.last;
-    let mut place = Place {
+    Place {
         day: query.first,
         examined: 0,
-    };
-    let mut length: u32 = 0;
-    let mut latest = query.first;
-    while place.day <= last {
+    }
+}
+
+// One pass over the visited days, from a place up to day `until`: it counts the matching days, of which there were `count` before that place, and puts as many of
+// them into the output as it has entries.
+fn scan(query: Query, start: Place, count: u32, until: u32, output: &mut [u8]) -> Tally
+    requires { ⌜ Scannable query start count until (capacity (now output)) ⌝ }
+    ensures { λ t. ⌜ Tallied query start until (capacity (now (output .entry))) t ⌝ }
+    ensures { λ _. ⌜ now (output .exit) ≡ withEntriesFrom (now (output .entry)) count (drop count (matchingDays query)) ⌝ }
+{
+    let room = output.len() / entries::ENTRY_BYTES;
+    let mut place = start;
+    let mut length = count;
+    let mut latest = start.day;
+    let mut resume = start;
+    while place.day <= until {
         let seen = visit(query, place);
-        let next = onward(place, seen);
+        let next = next_place(place, seen);
         if seen.matches {
-            put_if(writing, list, ENTRY * length as usize, place.day);
+            let index = length as usize;
+            entries::put_entry(output, index, place.day);
             length += 1;
             latest = place.day;
+            if index < room {
+                resume = next;
+            }
         }
         place = next;
     }
@@ -100,40 +252,8 @@ fn scan(query: Query, writing: bool, list: &mut [u8]) -> Tally
         length,
         examined: place.examined,
         latest,
+        resume,
     }
-}
-
-fn told(refusal: u32, tally: Tally) -> Found
-    ensures { λ f. ⌜ f ≡ record { refusal = refusal; length = tally .length; examined = tally .examined } ⌝ }
-{
-    Found {
-        refusal,
-        length: tally.length,
-        examined: tally.examined,
-    }
-}
-
-fn refused(refusal: u32) -> Found
-    ensures { λ f. ⌜ f ≡ record { refusal = refusal; length = 0; examined = 0 } ⌝ }
-{
-    Found {
-        refusal,
-        length: 0,
-        examined: 0,
-    }
-}
-
-// The second pass, for the days that the first one counted: it writes them and goes no further than the last. Each day is counted once, so the numbers told are the first pass's.
-fn write(query: Query, counted: Tally, list: &mut [u8]) -> Found
-    requires { ⌜ refusalOf (until query (counted .latest)) ≡ 0 ⌝ }
-    requires { ⌜ 4 * length (matchingDays (until query (counted .latest))) ≤ length (now list) ⌝ }
-    ensures { λ f. ⌜ f ≡ record { refusal = 0; length = counted .length; examined = counted .examined } ⌝ }
-    ensures { λ _. ⌜ now (list .exit) ≡ withEntries (matchingDays (until query (counted .latest))) (now (list .entry)) ⌝ }
-{
-    let mut shortened = query;
-    shortened.last = counted.latest;
-    scan(shortened, true, list);
-    told(refusal::NONE, counted)
 }
 
 // How many days match and how many the search examines, with no list.
@@ -142,10 +262,57 @@ pub fn measure(query: Query) -> Found
 {
     let refusal = query.refusal();
     if refusal != refusal::NONE {
-        return refused(refusal);
+        return Found::refused(refusal);
     }
     let mut none = [0u8; 0];
-    told(refusal::NONE, scan(query, false, &mut none))
+    let start = first_place(query);
+    let tally = scan(query, start, 0, query.last, &mut none);
+    Found::counted(refusal::NONE, tally)
+}
+
+// Writes the matching days to a list with an entry for each day of the span: whatever matches fits, and one pass counts and writes.
+fn fill(query: Query, list: &mut [u8]) -> Found
+    requires { ⌜ refusalOf query ≡ 0 ⌝ }
+    requires { ⌜ length (matchingDays query) ≤ capacity (now list) ⌝ }
+    ensures { λ f. ⌜ Searched query (now (list .entry)) f (now (list .exit)) ⌝ }
+{
+    let start = first_place(query);
+    let tally = scan(query, start, 0, query.last, list);
+    Found::counted(refusal::NONE, tally)
+}
+
+// The second pass, for the matching days behind those that the first one kept: it goes on from the place after the last of these, up to the last match. Each day is counted once, so the numbers
+// handed back are the first pass's.
+fn write_rest(query: Query, counted: Tally, list: &mut [u8]) -> Found
+    requires { ⌜ Scannable query (counted .resume) 192 (counted .latest) (capacity (now list)) ⌝ }
+    ensures { λ f. ⌜ f ≡ record { refusal = 0; length = counted .length; examined = counted .examined } ⌝ }
+    ensures { λ _. ⌜ now (list .exit) ≡ withEntriesFrom (now (list .entry)) 192 (drop 192 (matchingDays query)) ⌝ }
+{
+    let resume = counted.resume;
+    scan(query, resume, KEPT as u32, counted.latest, list);
+    Found::counted(refusal::NONE, counted)
+}
+
+// Writes the matching days to a list that may be too short for them. The first ones are kept beside it until it is known whether all fit.
+fn fill_if_enough(query: Query, list: &mut [u8]) -> Found
+    requires { ⌜ refusalOf query ≡ 0 ⌝ }
+    ensures { λ f. ⌜ Searched query (now (list .entry)) f (now (list .exit)) ⌝ }
+{
+    let capacity = list.len() / entries::ENTRY_BYTES;
+    let start = first_place(query);
+    let mut kept = [0u8; KEPT_BYTES];
+    let tally = scan(query, start, 0, query.last, &mut kept);
+    let needed = tally.length as usize;
+    if capacity < needed {
+        return Found::counted(refusal::LIST_TOO_SHORT, tally);
+    }
+    if needed <= KEPT {
+        let bytes = entries::ENTRY_BYTES * needed;
+        bytes::copy(&kept[..bytes], list);
+        return Found::counted(refusal::NONE, tally);
+    }
+    bytes::copy(&kept, list);
+    write_rest(query, tally, list)
 }
 
 // Writes the matching days to the list, earliest first, or leaves it as it was.
@@ -154,41 +321,12 @@ pub fn search(query: Query, list: &mut [u8]) -> Found
 {
     let refusal = query.refusal();
     if refusal != refusal::NONE {
-        return refused(refusal);
+        return Found::refused(refusal);
     }
-    let capacity = list.len() / ENTRY;
+    let capacity = list.len() / entries::ENTRY_BYTES;
     let days_less_one = (query.last - query.first) as usize;
-    // With an entry for each day of the span whatever matches fits, and one pass counts and writes.
-    let roomy = days_less_one < capacity;
-    let tally = scan(query, roomy, list);
-    if roomy {
-        return told(refusal::NONE, tally);
+    if days_less_one < capacity {
+        return fill(query, list);
     }
-    let needed = tally.length as usize;
-    if capacity < needed {
-        return told(refusal::LIST_TOO_SHORT, tally);
-    }
-    if needed == 0 {
-        return told(refusal::NONE, tally);
-    }
-    write(query, tally, list)
-}
-
-fn wide(byte: u8) -> u32
-    ensures { λ r. ⌜ (r ≡ byte) × (r < 256) ⌝ }
-{
-    byte as u32
-}
-
-// The number that an entry of a list holds, or 0 where the list has no such entry.
-pub fn entry_at(list: &[u8], index: usize) -> u32
-    ensures { λ r. ⌜ r ≡ entryAt (now (list .entry)) index ⌝ }
-{
-    if list.len() / ENTRY <= index {
-        return 0;
-    }
-    let at = ENTRY * index;
-    let low = wide(list[at]) + 256 * wide(list[at + 1]);
-    let high = wide(list[at + 2]) + 256 * wide(list[at + 3]);
-    low + 65536 * high
+    fill_if_enough(query, list)
 }

@@ -4,13 +4,14 @@ use mathlib.Core.List.{List}
 use Prim.Native.Nat.{ℕ}
 use borrow.Author.Tests.{le-leb, lt-leb, eq-eqb, ne-eqb}
 use Rattle.days.specs.declared.DayAnswer.{DayAnswer}
+use Rattle.days.specs.declared.NumberAnswer.{NumberAnswer}
 use Rattle.days.specs.Refusals.{accepted}
 use Rattle.days.specs.Days.{lastDay, dayOf}
 use Rattle.days.proofs.Laws.{past-last, that-day, no-such-day}
-use Rattle.text.specs.declared.NumberRead.{NumberRead}
-use Rattle.sheet.specs.Sheets.{refusalLine, twoLines, sheetOfNumber, lineRead, sheetOf}
+use Rattle.text.specs.Lines.{refusalLine}
+use Rattle.sheet.specs.Sheets.{twoLines, sheetOfNumber, inputRead, sheetOf}
 
-module _ (s : List ℕ) (read : NumberRead) (e : read ≡ lineRead s) where
+module _ (s : List ℕ) (read : NumberAnswer) (e : read ≡ inputRead s) where
   pub line-refused : (read .refusal ≡ accepted → ⊥) → sheetOf s ≡ refusalLine (read .refusal)
   unfolding sheetOf
   line-refused r = rw (sym e, ne-eqb (read .refusal) accepted r)

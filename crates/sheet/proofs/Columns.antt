@@ -10,7 +10,7 @@ use Rattle.panchanga.specs.declared.Panchanga.{Panchanga}
 use Rattle.panchanga.specs.OnDays.{panchangaOf}
 use Rattle.sheet.specs.Sheets.{columns}
 
--- what the answers for a day give the sheet
+-- the columns made of the answers for a day
 abbrev pub found : Day → NumberAnswer → Panchanga → List ℕ
 found d w p =
     d .cycle

@@ -1,32 +1,16 @@
 -- What is printed fits a line: the heading has 62 bytes, and each number is below a power of ten. Assumes nothing.
-use mathlib.Core.Path.{_≡_, ap, _∙_}
-use mathlib.Core.List.{List}
-use Prim.Native.Nat.{ℕ, _%_, _≤_, _<_}
+use Prim.Native.Nat.{ℕ, _%_, _≤_}
 use native.Mathlib.Omega.{arith}
 use lib.ListN.{length, length-append}
 use Rattle.days.specs.Days.{lastDay, pairAt}
 use Rattle.panchanga.specs.OnDays.{trueSunAt, trueMoonAt, tithiAt, nakshatraAt, yogaAt, karanaAt}
 use Rattle.panchanga.proofs.Bounds.{sun-small, moon-small, tithi-small, nakshatra-small, yoga-small, karana-range}
-use Rattle.text.specs.declared.Line.{Line}
-use Rattle.text.specs.Lines.{capacity, emptyLine, contents, withBytes}
-use Rattle.text.proofs.Lines.{bytes-kept, put-all}
+use Rattle.text.specs.Lines.{lineCapacity, spaced}
 use Rattle.text.proofs.Printing.{digits-length}
-use Rattle.sheet.specs.Lines.{Holds}
-use Rattle.sheet.specs.Sheets.{heading, refusalLine, spaced, columns, twoLines}
+use Rattle.sheet.specs.Sheets.{sheetHeading, columns, twoLines}
 
-pub holds : (l : Line) (bs : List ℕ) → length bs ≤ capacity → l ≡ withBytes emptyLine bs → Holds l bs
-holds l bs fits made = record { made = made; whole = ap contents made ∙ put-all bs fits .0 }
-
--- so that its contents can be lent
-pub holds-within : {l : Line} {bs : List ℕ} → Holds l bs → l .len ≤ length (l .bytes)
-holds-within {l} {bs} h = let kept = bytes-kept bs emptyLine in rw (h .made) (omega (arith, kept .within (omega arith)))
-
-pub refusal-fits : (refusal : ℕ) → refusal < 4294967296 → length (refusalLine refusal) ≤ capacity
-unfolding refusalLine
-refusal-fits refusal h = simp length-append (omega (arith, digits-length 9 refusal (omega arith)))
-
-pub two-lines-fit : (n : ℕ) → n ≤ lastDay → length (twoLines n) ≤ capacity
-unfolding twoLines heading spaced columns
+pub two-lines-fit : (n : ℕ) → n ≤ lastDay → length (twoLines n) ≤ lineCapacity
+unfolding twoLines sheetHeading spaced columns
 two-lines-fit n h =
     let d = pairAt n in
     let number = digits-length 5 n (omega arith) in

@@ -1,41 +1,17 @@
 // The day sheet: what is printed for an input, as a line of bytes.
 use days::Day;
+use days::NumberAnswer;
 use days::refusal;
 use text::Line;
-use text::NumberRead;
+use text::refusal_line;
 ghost use mathlib.Core.Path.{_≡_};
 ghost use Prim.Native.Nat.{_≤_};
 ghost use Rattle.days.specs.Days.{lastDay, pairAt};
-ghost use Rattle.text.specs.Lines.{withBytes};
-ghost use Rattle.sheet.specs.Lines.{Holds};
-ghost use Rattle.sheet.specs.Sheets.{refusalLine, spaced, twoLines, lineRead, sheetOf};
-
-const BAD_LINE: NumberRead = NumberRead {
-    refusal: refusal::BAD_INPUT,
-    number: 0,
-};
+ghost use Rattle.text.specs.Lines.{Holds};
+ghost use Rattle.sheet.specs.Sheets.{twoLines, inputRead, sheetOf};
 
 // The most digits of a day's number.
 const DIGITS: usize = 6;
-
-pub fn refusal_line(refusal: u32) -> Line
-    ensures { λ r. ⌜ Holds r (refusalLine refusal) ⌝ }
-{
-    Line::empty().text(b"refused ").number(refusal).byte(b'\n')
-}
-
-// The numbers, each behind a space.
-fn put_numbers(line: Line, numbers: &[u32]) -> Line
-    ensures { λ r. ⌜ r ≡ withBytes line (spaced (now (numbers .entry))) ⌝ }
-{
-    let mut made = line;
-    let mut i = 0;
-    while i < numbers.len() {
-        made = made.byte(b' ').number(numbers[i]);
-        i += 1;
-    }
-    made
-}
 
 // The heading and the day's numbers.
 fn two_lines(number: u32, day: Day) -> Line
@@ -58,22 +34,22 @@ fn two_lines(number: u32, day: Day) -> Line
         elements.yoga,
         elements.karana,
     ];
-    put_numbers(started, &columns).byte(b'\n')
+    started.numbers(&columns).byte(b'\n')
 }
 
 // The number of an input that is 1 to 6 decimal digits and one newline.
-fn read_line(input: &[u8]) -> NumberRead
-    ensures { λ r. ⌜ r ≡ lineRead (now (input .entry)) ⌝ }
+fn read_line(input: &[u8]) -> NumberAnswer
+    ensures { λ r. ⌜ r ≡ inputRead (now (input .entry)) ⌝ }
 {
     if input.len() == 0 {
-        return BAD_LINE;
+        return NumberAnswer::refused(refusal::BAD_INPUT);
     }
     let digits = input.len() - 1;
     if DIGITS < digits {
-        return BAD_LINE;
+        return NumberAnswer::refused(refusal::BAD_INPUT);
     }
     if input[digits] != b'\n' {
-        return BAD_LINE;
+        return NumberAnswer::refused(refusal::BAD_INPUT);
     }
     text::read_decimal(&input[..digits])
 }

@@ -1,12 +1,12 @@
 -- What holds along the loop that writes a number's digits from the last to the first: the digits of what is left of the
--- number, and behind them those written, are the number's. Assumes nothing.
+-- number, and after them those written, are the number's. Assumes nothing.
 use Prim.Native.Nat.{ℕ, zero, suc, _-_, _/_, _%_, _^_, _≤_, _<_}
 use mathlib.Core.Path.{_≡_, ap, sym, _∙_}
 use mathlib.Core.List.{List, [], _∷_, _++_, append-nil, append-assoc}
 use native.Mathlib.Omega.{arith}
 use native.Mathlib.Nat.{pow-succ'}
-use lib.ListN.{length, take, drop, set, replicate, length-set, length-drop}
-use lib.Seq.{take-all, set-split, drop-at, length-take-le}
+use lib.ListN.{length, take, drop, set, replicate, length-set}
+use lib.Seq.{set-split, drop-at, length-take-le}
 use Rattle.text.specs.Decimal.{digitByte, digitsOf}
 use Rattle.text.proofs.Printing.{digits-one, digits-more}
 
@@ -56,7 +56,3 @@ pub written-end :
     drop from (set bytes from (digitByte rest)) ≡ digitsOf n
 written-end n bytes from rest w h =
     drop-set from bytes (digitByte rest) (omega arith) ∙ sym (w .split ∙ rw (digits-one rest h))
-
--- the part that is lent from an index on is all that stands there
-pub lent-whole : (bytes : List ℕ) (from : ℕ) → length bytes ≡ 10 → take (10 - from) (drop from bytes) ≡ drop from bytes
-lent-whole bytes from size = take-all (10 - from) (drop from bytes) (simp length-drop (omega arith))

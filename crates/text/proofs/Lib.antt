@@ -3,5 +3,7 @@ pub mod Reading
 pub mod RoundTrip
 pub mod Backwards
 pub mod Lines
+pub mod Lending
 pub mod Putting
+pub mod Holding
 pub mod Worked

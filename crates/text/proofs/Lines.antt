@@ -11,19 +11,19 @@ use lib.ListN.{length, set, length-set}
 use lib.Seq.{take-suc-set}
 use borrow.Author.Tests.{ltb-true, ltb-false, lt-ltb, le-ltb}
 use Rattle.text.specs.declared.Line.{Line}
-use Rattle.text.specs.Lines.{capacity, emptyLine, contents, withByte, withBytes}
+use Rattle.text.specs.Lines.{lineCapacity, emptyLine, contents, withByte, withBytes}
 
 -- the line l with b put where its contents end
 abbrev pub stored : Line → ℕ → Line
 stored l b = record { bytes = set (l .bytes) (l .len) b; len = l .len + 1 }
 
-pub with-byte-fits : (l : Line) (b : ℕ) → l .len < capacity → withByte l b ≡ stored l b
+pub with-byte-fits : (l : Line) (b : ℕ) → l .len < lineCapacity → withByte l b ≡ stored l b
 unfolding withByte
-with-byte-fits l b h = rw (lt-ltb (l .len) capacity h)
+with-byte-fits l b h = rw (lt-ltb (l .len) lineCapacity h)
 
-pub with-byte-full : (l : Line) (b : ℕ) → capacity ≤ l .len → withByte l b ≡ l
+pub with-byte-full : (l : Line) (b : ℕ) → lineCapacity ≤ l .len → withByte l b ≡ l
 unfolding withByte
-with-byte-full l b h = rw (le-ltb (l .len) capacity h)
+with-byte-full l b h = rw (le-ltb (l .len) lineCapacity h)
 
 -- a byte is a list of one
 pub with-byte-is : (l : Line) (b : ℕ) → withByte l b ≡ withBytes l (b ∷ [])
@@ -46,16 +46,16 @@ with-bytes-append l xs ys = sym (foldl-append withByte l xs ys)
 -- what a line keeps, whatever is put: the length of its array, and contents within its room
 pub record Kept (l m : Line) : Type 0 where
   pub size : length (m .bytes) ≡ length (l .bytes)
-  pub within : l .len ≤ capacity → m .len ≤ capacity
+  pub within : l .len ≤ lineCapacity → m .len ≤ lineCapacity
 
 byte-kept : (l : Line) (b : ℕ) → Kept l (withByte l b)
-byte-kept l b = go (ltb (l .len) capacity) refl
+byte-kept l b = go (ltb (l .len) lineCapacity) refl
   where
-    go : (t : Bool) → ltb (l .len) capacity ≡ t → Kept l (withByte l b)
+    go : (t : Bool) → ltb (l .len) lineCapacity ≡ t → Kept l (withByte l b)
     go true e =
-        let h = ltb-true (l .len) capacity e in
+        let h = ltb-true (l .len) lineCapacity e in
         rw (with-byte-fits l b h) (record { size = length-set (l .bytes) (l .len) b; within = λ _. omega arith })
-    go false e = rw (with-byte-full l b (ltb-false (l .len) capacity e)) (record { size = refl; within = λ h. h })
+    go false e = rw (with-byte-full l b (ltb-false (l .len) lineCapacity e)) (record { size = refl; within = λ h. h })
 
 pub bytes-kept : (bs : List ℕ) (l : Line) → Kept l (withBytes l bs)
 bytes-kept [] l = rw (with-bytes-none l) (record { size = refl; within = λ h. h })
@@ -64,12 +64,12 @@ bytes-kept (b ∷ bs) l =
     let rest = bytes-kept bs (withByte l b) in
     rw (with-bytes-more l b bs) (record { size = rest .size ∙ one .size; within = λ h. rest .within (one .within h) })
 
--- the line m is the line l with all of bs behind its contents
+-- the line m is the line l with all of bs after its contents
 pub record Put (l : Line) (bs : List ℕ) (m : Line) : Type 0 where
   pub whole : contents m ≡ contents l ++ bs
   pub long : m .len ≡ l .len + length bs
 
-put-byte : (l : Line) (b : ℕ) → length (l .bytes) ≡ capacity → l .len < capacity → Put l (b ∷ []) (withByte l b)
+put-byte : (l : Line) (b : ℕ) → length (l .bytes) ≡ lineCapacity → l .len < lineCapacity → Put l (b ∷ []) (withByte l b)
 unfolding contents
 put-byte l b full h =
     rw (with-byte-fits l b h)
@@ -78,8 +78,8 @@ put-byte l b full h =
 -- what fits is put whole
 pub put-bytes :
     (bs : List ℕ) (l : Line) →
-    length (l .bytes) ≡ capacity →
-    l .len + length bs ≤ capacity →
+    length (l .bytes) ≡ lineCapacity →
+    l .len + length bs ≤ lineCapacity →
     Put l bs (withBytes l bs)
 put-bytes [] l full h =
     rw (with-bytes-none l) (record { whole = sym (append-nil (contents l)); long = omega arith })
@@ -95,7 +95,7 @@ put-bytes (b ∷ bs) l full h =
 -- a line made from the empty one has just what was put
 pub put-all :
     (bs : List ℕ) →
-    length bs ≤ capacity →
+    length bs ≤ lineCapacity →
     (contents (withBytes emptyLine bs) ≡ bs) × (withBytes emptyLine bs .len ≡ length bs)
 unfolding contents
 put-all bs h = let p = put-bytes bs emptyLine refl (omega arith) in (p .whole, omega arith)

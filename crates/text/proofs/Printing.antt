@@ -1,6 +1,7 @@
 -- Laws of a number's decimal digits. Each goes by one induction: a number below ten has one digit, and any other has the
 -- digits of its tenth and one more. Assumes nothing.
 use Prim.Native.Nat.{ℕ, zero, suc, _/_, _%_, _^_, _≤_, _<_}
+use Prim.Native.Char.{code}
 use mathlib.Core.Path.{_≡_, refl, ap, sym, _∙_}
 use mathlib.Core.Bool.{Bool, true, false}
 use mathlib.Core.List.{List, [], _∷_, _++_}
@@ -11,7 +12,7 @@ use lib.ListN.{length, getD, length-append, List·getD-append}
 use borrow.Author.Tests.{ltb-true, ltb-false, lt-ltb, le-ltb}
 use Rattle.text.specs.Decimal.{digitByte, digitsWithin, digitsOf}
 
--- the digits s with the last digit of n behind them
+-- the digits s with the last digit of n after them
 abbrev pub thenLast : ℕ → List ℕ → List ℕ
 thenLast n s = s ++ (digitByte (n % 10) ∷ [])
 
@@ -71,10 +72,10 @@ pub digits-some : (n : ℕ) → 1 ≤ length (digitsOf n)
 digits-some = digits-induct (λ n s. 1 ≤ length s) (λ n h. omega arith) (λ n s h ih. simp length-append (omega arith))
 
 -- the first digit is a zero for 0 alone
-pub no-leading-zero : (n : ℕ) → getD (digitsOf n) 0 0 ≡ 48 → n ≡ 0
+pub no-leading-zero : (n : ℕ) → getD (digitsOf n) 0 0 ≡ code "0" → n ≡ 0
 no-leading-zero n =
     digits-induct
-    (λ n s. (1 ≤ length s) × (getD s 0 0 ≡ 48 → n ≡ 0))
+    (λ n s. (1 ≤ length s) × (getD s 0 0 ≡ code "0" → n ≡ 0))
     (λ n h. (omega arith, λ e. omega arith))
     more
     n
@@ -83,8 +84,8 @@ no-leading-zero n =
     more :
         (n : ℕ) (s : List ℕ) →
         10 ≤ n →
-        (1 ≤ length s) × (getD s 0 0 ≡ 48 → n / 10 ≡ 0) →
-        (1 ≤ length (thenLast n s)) × (getD (thenLast n s) 0 0 ≡ 48 → n ≡ 0)
+        (1 ≤ length s) × (getD s 0 0 ≡ code "0" → n / 10 ≡ 0) →
+        (1 ≤ length (thenLast n s)) × (getD (thenLast n s) 0 0 ≡ code "0" → n ≡ 0)
     more n s h ih = (
       simp length-append (omega arith),
       λ e. absurd (let z = ih .1 (sym (List·getD-append s (digitByte (n % 10) ∷ []) 0 0 (ih .0)) ∙ e) in omega arith),

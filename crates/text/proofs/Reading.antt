@@ -1,6 +1,7 @@
 -- Reading a number: when it is refused, and what holds along the loop, that the digits ahead, read on from the value so
--- far, give the number meant. Assumes nothing.
+-- far, make the number meant. Assumes nothing.
 use Prim.Native.Nat.{ℕ, suc, _+_, _-_, _*_, _^_, _≤_, _<_}
+use Prim.Native.Char.{code}
 use mathlib.Core.Path.{_≡_, refl, ap, sym, _∙_}
 use mathlib.Core.Bool.{true, false, cond, _&&_}
 use mathlib.Core.List.{List, _∷_, foldl}
@@ -10,25 +11,27 @@ use native.Mathlib.Numerals.{add-one}
 use lib.ListN.{length, getD, drop, drop-of-length-le}
 use lib.Seq.{drop-cons}
 use borrow.Author.Tests.{le-leb, lt-leb}
-use Rattle.text.specs.Decimal.{isDigit, allDigits, withDigit, valueOf, isNumber, goodNumber, badNumber, numberRead}
+use Rattle.days.specs.Refusals.{badInput}
+use Rattle.days.specs.Days.{theNumber, noNumber}
+use Rattle.text.specs.Decimal.{isDigit, allDigits, withDigit, valueOf, isNumber, numberRead}
 
-pub is-digit : (b : ℕ) → 48 ≤ b → b ≤ 57 → isDigit b ≡ true
+pub is-digit : (b : ℕ) → code "0" ≤ b → b ≤ code "9" → isDigit b ≡ true
 unfolding isDigit
-is-digit b low high = rw (le-leb 48 b low, le-leb b 57 high)
+is-digit b low high = rw (le-leb (code "0") b low, le-leb b (code "9") high)
 
-pub below-digits : (b : ℕ) → b < 48 → isDigit b ≡ false
+pub below-digits : (b : ℕ) → b < code "0" → isDigit b ≡ false
 unfolding isDigit
-below-digits b h = rw (lt-leb 48 b h)
+below-digits b h = rw (lt-leb (code "0") b h)
 
-pub above-digits : (b : ℕ) → 57 < b → isDigit b ≡ false
+pub above-digits : (b : ℕ) → code "9" < b → isDigit b ≡ false
 unfolding isDigit
-above-digits b h = rw (le-leb 48 b (omega arith), lt-leb b 57 h)
+above-digits b h = rw (le-leb (code "0") b (omega arith), lt-leb b (code "9") h)
 
-pub read-none : (s : List ℕ) → length s ≡ 0 → numberRead s ≡ badNumber
+pub read-none : (s : List ℕ) → length s ≡ 0 → numberRead s ≡ noNumber badInput
 unfolding numberRead isNumber
 read-none s h = rw (lt-leb 1 (length s) (omega arith))
 
-pub read-long : (s : List ℕ) → 9 < length s → numberRead s ≡ badNumber
+pub read-long : (s : List ℕ) → 9 < length s → numberRead s ≡ noNumber badInput
 unfolding numberRead isNumber
 read-long s h = rw (le-leb 1 (length s) (omega arith), lt-leb (length s) 9 h)
 
@@ -37,7 +40,7 @@ pub read-few :
     (s : List ℕ) →
     1 ≤ length s →
     length s ≤ 9 →
-    numberRead s ≡ cond (allDigits s) (goodNumber (valueOf s)) badNumber
+    numberRead s ≡ cond (allDigits s) (theNumber (valueOf s)) (noNumber badInput)
 unfolding numberRead isNumber
 read-few s some few = rw (le-leb 1 (length s) some, le-leb (length s) 9 few)
 
@@ -56,7 +59,7 @@ unfolding allDigits
 all-digits-next b bs = refl
 
 module _ (s : List ℕ) (n i : ℕ) (r : Reading s n i) (more : i < length s) where
-  -- the digits from i on are this one and those behind it
+  -- the digits from i on are this one and those after it
   next-good : isDigit (getD s i 0) && allDigits (drop (suc i) s) ≡ allDigits s
   next-good = sym (all-digits-next _ _) ∙ ap allDigits (sym (drop-cons s i 0 more)) ∙ r .good
 
@@ -64,12 +67,12 @@ module _ (s : List ℕ) (n i : ℕ) (r : Reading s n i) (more : i < length s) wh
   pub reading-fits : length s ≤ 9 → n < 100000000
   reading-fits few = omega (arith, pow-le-pow-right {n = 10} (omega arith) {i = i} {j = 8} (omega arith))
 
-  pub reading-bad : 1 ≤ length s → length s ≤ 9 → isDigit (getD s i 0) ≡ false → numberRead s ≡ badNumber
+  pub reading-bad : 1 ≤ length s → length s ≤ 9 → isDigit (getD s i 0) ≡ false → numberRead s ≡ noNumber badInput
   reading-bad some few e =
       let bad : allDigits s ≡ false = sym next-good ∙ rw e in
       read-few s some few ∙ rw bad
 
-  pub reading-next : 48 ≤ getD s i 0 → getD s i 0 ≤ 57 → Reading s (10 * n + (getD s i 0 - 48)) (i + 1)
+  pub reading-next : code "0" ≤ getD s i 0 → getD s i 0 ≤ code "9" → Reading s (10 * n + (getD s i 0 - code "0")) (i + 1)
   unfolding withDigit
   reading-next low high =
       record {
@@ -84,9 +87,9 @@ pub reading-end :
     length s ≤ i →
     1 ≤ length s →
     length s ≤ 9 →
-    goodNumber n ≡ numberRead s
+    theNumber n ≡ numberRead s
 unfolding allDigits
 reading-end s n i r end some few =
     let none = drop-of-length-le s {i = i} end in
     let value = ap (foldl withDigit n) (sym none) ∙ r .ahead in
-    ap goodNumber value ∙ sym (read-few s some few ∙ rw (sym (r .good) ∙ ap allDigits none))
+    ap theNumber value ∙ sym (read-few s some few ∙ rw (sym (r .good) ∙ ap allDigits none))

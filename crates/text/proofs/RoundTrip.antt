@@ -1,11 +1,12 @@
--- Printing a number and then reading it gives the number back: what is printed is digits, and their value is the number.
+-- A number printed and then read is the number again: what is printed is digits, and their value is the number.
 -- Assumes nothing.
 use Prim.Native.Nat.{ℕ, _%_, _<_}
 use mathlib.Core.Path.{_≡_, refl, sym, _∙_}
 use mathlib.Core.Bool.{true, _&&_, and-assoc}
 use mathlib.Core.List.{List, [], _∷_, _++_, foldl-append}
 use native.Mathlib.Omega.{arith}
-use Rattle.text.specs.Decimal.{isDigit, allDigits, withDigit, valueOf, goodNumber, numberRead, digitByte, digitsOf}
+use Rattle.days.specs.Days.{theNumber}
+use Rattle.text.specs.Decimal.{isDigit, allDigits, withDigit, valueOf, numberRead, digitByte, digitsOf}
 use Rattle.text.proofs.Printing.{digits-induct, digits-some, digits-length}
 use Rattle.text.proofs.Reading.{is-digit, read-few}
 
@@ -34,6 +35,6 @@ digits-value =
     (λ n s h ih. rw (foldl-append withDigit 0 s (digitByte (n % 10) ∷ []), ih) (omega arith))
 
 -- what was printed reads as the number again
-pub read-digits : (n : ℕ) → n < 1000000000 → numberRead (digitsOf n) ≡ goodNumber n
+pub read-digits : (n : ℕ) → n < 1000000000 → numberRead (digitsOf n) ≡ theNumber n
 read-digits n h =
     read-few (digitsOf n) (digits-some n) (digits-length 8 n h) ∙ rw (digits-all n, digits-value n)

@@ -1,22 +1,25 @@
--- Decimal numbers as ASCII bytes, the most significant digit first: what reading gives, and what printing writes.
+-- Decimal numbers as ASCII bytes, the most significant digit first: what is read from them, and what is printed.
 use Prim.Native.Nat.{ℕ, zero, suc, _+_, _-_, _*_, _/_, _%_}
+use Prim.Native.Char.{code}
 use mathlib.Core.Bool.{Bool, true, false, cond, _&&_}
 use mathlib.Core.List.{List, [], _∷_, _++_, foldl}
 use lib.Dec.{leb, ltb}
 use lib.ListN.{length}
-use Rattle.text.specs.declared.NumberRead.{NumberRead}
+use Rattle.days.specs.declared.NumberAnswer.{NumberAnswer}
+use Rattle.days.specs.Refusals.{badInput}
+use Rattle.days.specs.Days.{theNumber, noNumber}
 
 -- the bytes from `0` to `9`
 unfoldable pub isDigit : ℕ → Bool
-isDigit b = leb 48 b && leb b 57
+isDigit b = leb (code "0") b && leb b (code "9")
 
 unfoldable pub allDigits : List ℕ → Bool
 allDigits [] = true
 allDigits (b ∷ bs) = isDigit b && allDigits bs
 
--- the value v with one more digit behind it
+-- the value v with one more digit after it
 unfoldable pub withDigit : ℕ → ℕ → ℕ
-withDigit v b = 10 * v + (b - 48)
+withDigit v b = 10 * v + (b - code "0")
 
 unfoldable pub valueOf : List ℕ → ℕ
 valueOf bs = foldl withDigit 0 bs
@@ -25,19 +28,13 @@ valueOf bs = foldl withDigit 0 bs
 unfoldable pub isNumber : List ℕ → Bool
 isNumber bs = leb 1 (length bs) && (leb (length bs) 9 && allDigits bs)
 
-abbrev pub goodNumber : ℕ → NumberRead
-goodNumber n = record { refusal = 0; number = n }
-
--- paper 01's refusal of a bad line
-abbrev pub badNumber : NumberRead
-badNumber = record { refusal = 3; number = 0 }
-
-unfoldable pub numberRead : List ℕ → NumberRead
-numberRead bs = cond (isNumber bs) (goodNumber (valueOf bs)) badNumber
+-- the number, or paper 01's refusal of a bad line
+unfoldable pub numberRead : List ℕ → NumberAnswer
+numberRead bs = cond (isNumber bs) (theNumber (valueOf bs)) (noNumber badInput)
 
 -- the byte of a digit
 abbrev pub digitByte : ℕ → ℕ
-digitByte d = 48 + d
+digitByte d = code "0" + d
 
 -- the digits of n, where dividing it by ten so many times leaves it below ten
 unfoldable pub digitsWithin : ℕ → ℕ → List ℕ

@@ -1,15 +1,11 @@
 // Decimal numbers and lines of output: a number is read and printed by one function each.
+use days::NumberAnswer;
+use days::refusal;
 ghost use mathlib.Core.Path.{_≡_};
 ghost use Prim.Native.Nat.{_≤_};
 ghost use lib.ListN.{length, drop};
-ghost use Rattle.text.specs.Decimal.{badNumber, numberRead, digitsOf};
-ghost use Rattle.text.specs.Lines.{emptyLine, withByte, withBytes};
-
-// What reading gives: the refusal's number, 0 for none, and the number read.
-pub struct NumberRead {
-    pub refusal: u32,
-    pub number: u32,
-}
+ghost use Rattle.text.specs.Decimal.{numberRead, digitsOf};
+ghost use Rattle.text.specs.Lines.{emptyLine, withByte, withBytes, spaced, Holds, refusalLine};
 
 // A line being made: its contents are the first len bytes.
 pub struct Line {
@@ -23,39 +19,30 @@ struct Digits {
     from: usize,
 }
 
-fn bad_number() -> NumberRead
-    ensures { λ r. ⌜ r ≡ badNumber ⌝ }
-{
-    NumberRead {
-        refusal: 3,
-        number: 0,
-    }
-}
-
 // At most nine digits, so that every value fits.
-pub fn read_decimal(digits: &[u8]) -> NumberRead
+pub fn read_decimal(digits: &[u8]) -> NumberAnswer
     ensures { λ r. ⌜ r ≡ numberRead (now (digits .entry)) ⌝ }
 {
     if digits.len() == 0 {
-        return bad_number();
+        return NumberAnswer::refused(refusal::BAD_INPUT);
     }
     if 9 < digits.len() {
-        return bad_number();
+        return NumberAnswer::refused(refusal::BAD_INPUT);
     }
     let mut number: u32 = 0;
     let mut i = 0;
     while i < digits.len() {
         let digit = digits[i];
         if digit < b'0' {
-            return bad_number();
+            return NumberAnswer::refused(refusal::BAD_INPUT);
         }
         if b'9' < digit {
-            return bad_number();
+            return NumberAnswer::refused(refusal::BAD_INPUT);
         }
         number = 10 * number + (digit - b'0') as u32;
         i += 1;
     }
-    NumberRead { refusal: 0, number }
+    NumberAnswer::accepted(number)
 }
 
 // The digits are found from the last, so they are written backwards.
@@ -120,4 +107,24 @@ impl Line {
         let from = digits.from;
         self.text(&bytes[from..])
     }
+
+    // The numbers, each after a space.
+    pub fn numbers(self, numbers: &[u32]) -> Line
+        ensures { λ r. ⌜ r ≡ withBytes self (spaced (now (numbers .entry))) ⌝ }
+    {
+        let mut made = self;
+        let mut i = 0;
+        while i < numbers.len() {
+            made = made.byte(b' ').number(numbers[i]);
+            i += 1;
+        }
+        made
+    }
+}
+
+// What is printed for a refusal.
+pub fn refusal_line(refusal: u32) -> Line
+    ensures { λ r. ⌜ Holds r (refusalLine refusal) ⌝ }
+{
+    Line::empty().text(b"refused ").number(refusal).byte(b'\n')
 }

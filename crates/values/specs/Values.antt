@@ -1,4 +1,4 @@
--- What the values of a line mean: each is a word, and gives a number, or the refusal of a bad line.
+-- What the values of a line mean: each is a word, read as a number, or the refusal of a bad line.
 -- Assumes nothing.
 use mathlib.Core.Bool.{Bool, true, false, cond, _&&_}
 use mathlib.Core.List.{List}
@@ -7,19 +7,19 @@ use lib.Dec.{eqb, ltb}
 use lib.ListN.{length}
 use Rattle.civil.specs.Answers.{dayOfDate}
 use Rattle.days.specs.declared.NumberAnswer.{NumberAnswer}
-use Rattle.days.specs.Refusals.{accepted}
-use Rattle.text.specs.declared.NumberRead.{NumberRead}
-use Rattle.text.specs.Decimal.{goodNumber, badNumber, numberRead}
+use Rattle.days.specs.Refusals.{accepted, badInput}
+use Rattle.days.specs.Days.{theNumber, noNumber}
+use Rattle.text.specs.Decimal.{numberRead}
 use Rattle.values.specs.declared.Three.{Three}
-use Rattle.words.specs.Words.{dash, colon, upTo, behind, placeIn}
-use Rattle.values.specs.Names.{weekdayNames}
+use Rattle.words.specs.Words.{dash, colon, upTo, afterFirst, placeIn}
+use Rattle.words.specs.Names.{weekdayNames}
 
--- a word has been read
-abbrev pub isRead : NumberRead → Bool
+-- the word is a number
+abbrev pub isRead : NumberAnswer → Bool
 isRead r = eqb (r .refusal) accepted
 
 -- three numbers with a separator between them
-abbrev pub threeNumbers : NumberRead → NumberRead → NumberRead → Three
+abbrev pub threeNumbers : NumberAnswer → NumberAnswer → NumberAnswer → Three
 threeNumbers a b c =
     cond (isRead a && (isRead b && isRead c))
     (record { read = true; first = a .number; second = b .number; third = c .number })
@@ -27,40 +27,36 @@ threeNumbers a b c =
 
 unfoldable pub threeRead : ℕ → List ℕ → Three
 threeRead s w =
-    threeNumbers (numberRead (upTo s w)) (numberRead (upTo s (behind s w))) (numberRead (behind s (behind s w)))
+    threeNumbers (numberRead (upTo s w)) (numberRead (upTo s (afterFirst s w))) (numberRead (afterFirst s (afterFirst s w)))
 
 -- `D:M:S`, in seconds of arc: D below 1000, M and S below 60
-unfoldable pub sexagesimal : Three → NumberRead
-sexagesimal t =
+unfoldable pub sexagesimalRead : Three → NumberAnswer
+sexagesimalRead t =
     cond (t .read && (ltb (t .first) 1000 && (ltb (t .second) 60 && ltb (t .third) 60)))
-    (goodNumber (3600 * t .first + 60 * t .second + t .third))
-    badNumber
+    (theNumber (3600 * t .first + 60 * t .second + t .third))
+    (noNumber badInput)
 
 -- a number, or what else the word may be
-unfoldable pub numberOr : List ℕ → NumberRead → NumberRead
+unfoldable pub numberOr : List ℕ → NumberAnswer → NumberAnswer
 numberOr w other = cond (isRead (numberRead w)) (numberRead w) other
 
 -- an angle: whole seconds of arc, or `D:M:S`
-unfoldable pub angleRead : List ℕ → NumberRead
-angleRead w = numberOr w (sexagesimal (threeRead colon w))
-
--- a day that was found, or the refusal of its date
-abbrev pub asRead : NumberAnswer → NumberRead
-asRead a = record { refusal = a .refusal; number = a .number }
+unfoldable pub angleRead : List ℕ → NumberAnswer
+angleRead w = numberOr w (sexagesimalRead (threeRead colon w))
 
 -- `YEAR-MONTH-DAY`: the day of that date
-unfoldable pub dateRead : Three → NumberRead
+unfoldable pub dateRead : Three → NumberAnswer
 dateRead t =
-    cond (t .read) (asRead (dayOfDate (record { year = t .first; month = t .second; day = t .third }))) badNumber
+    cond (t .read) (dayOfDate (record { year = t .first; month = t .second; day = t .third })) (noNumber badInput)
 
 -- a day of the span: its number, or its civil date
-unfoldable pub dayRead : List ℕ → NumberRead
+unfoldable pub dayRead : List ℕ → NumberAnswer
 dayRead w = numberOr w (dateRead (threeRead dash w))
 
 -- a weekday: its name, or its number
-unfoldable pub weekdayRead : List ℕ → NumberRead
-weekdayRead w = cond (ltb (placeIn weekdayNames w) 7) (goodNumber (placeIn weekdayNames w)) (numberRead w)
+unfoldable pub weekdayRead : List ℕ → NumberAnswer
+weekdayRead w = cond (ltb (placeIn weekdayNames w) 7) (theNumber (placeIn weekdayNames w)) (numberRead w)
 
 -- no word at all
-unfoldable pub noneRead : List ℕ → NumberRead
-noneRead w = cond (eqb (length w) 0) (goodNumber 0) badNumber
+unfoldable pub noneRead : List ℕ → NumberAnswer
+noneRead w = cond (eqb (length w) 0) (theNumber 0) (noNumber badInput)

@@ -1,22 +1,20 @@
-// The values of a line: each is a word.
+// The values of a line: each is a word, read as a number.
 use civil::Date;
+use days::NumberAnswer;
 use days::refusal;
-use text::NumberRead;
 use text::read_decimal;
-use words::behind;
-use words::place_in;
+use words::after;
 use words::up_to;
+use words::weekday_place;
 ghost use mathlib.Core.Path.{_≡_};
-ghost use Rattle.values.specs.Values.{threeRead, sexagesimal as sexagesimalOf, angleRead, dateRead, dayRead, weekdayRead, noneRead};
-
-pub const WEEKDAYS: [u8; 56] = *b"monday tuesday wednesday thursday friday saturday sunday";
+ghost use Rattle.values.specs.Values.{threeRead, sexagesimalRead, angleRead, dateRead, dayRead, weekdayRead, noneRead};
 
 // Three numbers with a separator between them.
-pub struct Three {
-    pub read: bool,
-    pub first: u32,
-    pub second: u32,
-    pub third: u32,
+struct Three {
+    read: bool,
+    first: u32,
+    second: u32,
+    third: u32,
 }
 
 const NOT_THREE: Three = Three {
@@ -26,18 +24,13 @@ const NOT_THREE: Three = Three {
     third: 0,
 };
 
-const BAD: NumberRead = NumberRead {
-    refusal: refusal::BAD_INPUT,
-    number: 0,
-};
-
 fn three_of(word: &[u8], separator: u8) -> Three
     ensures { λ r. ⌜ r ≡ threeRead separator (now (word .entry)) ⌝ }
 {
-    let rest = behind(word, separator);
+    let rest = after(word, separator);
     let first = read_decimal(up_to(word, separator));
     let second = read_decimal(up_to(rest, separator));
-    let third = read_decimal(behind(rest, separator));
+    let third = read_decimal(after(rest, separator));
     if first.refusal != refusal::NONE {
         return NOT_THREE;
     }
@@ -55,29 +48,26 @@ fn three_of(word: &[u8], separator: u8) -> Three
     }
 }
 
-fn sexagesimal(t: Three) -> NumberRead
-    ensures { λ r. ⌜ r ≡ sexagesimalOf t ⌝ }
+fn sexagesimal(t: Three) -> NumberAnswer
+    ensures { λ r. ⌜ r ≡ sexagesimalRead t ⌝ }
 {
     if !t.read {
-        return BAD;
+        return NumberAnswer::refused(refusal::BAD_INPUT);
     }
     if 1000 <= t.first {
-        return BAD;
+        return NumberAnswer::refused(refusal::BAD_INPUT);
     }
     if 60 <= t.second {
-        return BAD;
+        return NumberAnswer::refused(refusal::BAD_INPUT);
     }
     if 60 <= t.third {
-        return BAD;
+        return NumberAnswer::refused(refusal::BAD_INPUT);
     }
     let number = 3600 * t.first + 60 * t.second + t.third;
-    NumberRead {
-        refusal: refusal::NONE,
-        number,
-    }
+    NumberAnswer::accepted(number)
 }
 
-pub fn angle(word: &[u8]) -> NumberRead
+pub fn angle(word: &[u8]) -> NumberAnswer
     ensures { λ r. ⌜ r ≡ angleRead (now (word .entry)) ⌝ }
 {
     let seconds = read_decimal(word);
@@ -87,24 +77,20 @@ pub fn angle(word: &[u8]) -> NumberRead
     sexagesimal(three_of(word, b':'))
 }
 
-fn date(t: Three) -> NumberRead
+fn date(t: Three) -> NumberAnswer
     ensures { λ r. ⌜ r ≡ dateRead t ⌝ }
 {
     if !t.read {
-        return BAD;
+        return NumberAnswer::refused(refusal::BAD_INPUT);
     }
-    let found = civil::day_of(Date {
+    civil::day_of(Date {
         year: t.first,
         month: t.second,
         day: t.third,
-    });
-    NumberRead {
-        refusal: found.refusal,
-        number: found.number,
-    }
+    })
 }
 
-pub fn day(word: &[u8]) -> NumberRead
+pub fn day(word: &[u8]) -> NumberAnswer
     ensures { λ r. ⌜ r ≡ dayRead (now (word .entry)) ⌝ }
 {
     let number = read_decimal(word);
@@ -114,28 +100,22 @@ pub fn day(word: &[u8]) -> NumberRead
     date(three_of(word, b'-'))
 }
 
-pub fn weekday(word: &[u8]) -> NumberRead
+pub fn weekday(word: &[u8]) -> NumberAnswer
     ensures { λ r. ⌜ r ≡ weekdayRead (now (word .entry)) ⌝ }
 {
-    let place = place_in(&WEEKDAYS, word);
+    let place = weekday_place(word);
     if place < 7 {
-        return NumberRead {
-            refusal: refusal::NONE,
-            number: place as u32,
-        };
+        return NumberAnswer::accepted(place as u32);
     }
     read_decimal(word)
 }
 
 // The place of a value that the line must not have.
-pub fn nothing(word: &[u8]) -> NumberRead
+pub fn nothing(word: &[u8]) -> NumberAnswer
     ensures { λ r. ⌜ r ≡ noneRead (now (word .entry)) ⌝ }
 {
     if word.len() != 0 {
-        return BAD;
+        return NumberAnswer::refused(refusal::BAD_INPUT);
     }
-    NumberRead {
-        refusal: refusal::NONE,
-        number: 0,
-    }
+    NumberAnswer::accepted(0)
 }

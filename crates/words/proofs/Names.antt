@@ -1,4 +1,4 @@
--- The name at a place, found piece by piece: behind the first separator, each name's place is one less. Assumes nothing.
+-- The name at a place, found piece by piece: after the first separator, each name's place is one less. Assumes nothing.
 use mathlib.Core.Path.{_≡_, refl, ap, sym, _∙_}
 use mathlib.Core.Bool.{Bool, true, false}
 use mathlib.Core.List.{List, []}
@@ -8,7 +8,7 @@ use borrow.Author.Tests.{ltb-false}
 use lib.Dec.{ltb}
 use lib.ListN.{length, drop-of-length-le}
 use Rattle.text.specs.Lines.{space}
-use Rattle.words.specs.Words.{run, upTo, behind, pieces, nameAt}
+use Rattle.words.specs.Words.{runLength, upTo, afterFirst, pieces, nameAt}
 use Rattle.words.proofs.Pieces.{laterPieces, pieces-first}
 
 name-first : (bs : List ℕ) → nameAt (pieces space bs) 0 ≡ upTo space bs
@@ -20,19 +20,19 @@ unfolding nameAt pieces
 none-later zero = refl
 none-later (suc n) = refl
 
-nothing : (bs : List ℕ) → ltb (run false space bs) (length bs) ≡ false → behind space bs ≡ []
-unfolding behind
+nothing : (bs : List ℕ) → ltb (runLength false space bs) (length bs) ≡ false → afterFirst space bs ≡ []
+unfolding afterFirst
 nothing bs e =
-    drop-of-length-le bs {i = suc (run false space bs)} (omega (arith, ltb-false (run false space bs) (length bs) e))
+    drop-of-length-le bs {i = suc (runLength false space bs)} (omega (arith, ltb-false (runLength false space bs) (length bs) e))
 
-name-next : (bs : List ℕ) (n : ℕ) → nameAt (pieces space bs) (suc n) ≡ nameAt (pieces space (behind space bs)) n
+name-next : (bs : List ℕ) (n : ℕ) → nameAt (pieces space bs) (suc n) ≡ nameAt (pieces space (afterFirst space bs)) n
 unfolding nameAt laterPieces
-name-next bs n = go (ltb (run false space bs) (length bs)) refl
+name-next bs n = go (ltb (runLength false space bs) (length bs)) refl
   where
     go :
         (t : Bool) →
-        ltb (run false space bs) (length bs) ≡ t →
-        nameAt (pieces space bs) (suc n) ≡ nameAt (pieces space (behind space bs)) n
+        ltb (runLength false space bs) (length bs) ≡ t →
+        nameAt (pieces space bs) (suc n) ≡ nameAt (pieces space (afterFirst space bs)) n
     go true e = rw (pieces-first space bs, e)
     go false e = rw (pieces-first space bs, e) (sym (none-later n) ∙ ap (λ s. nameAt (pieces space s) n) (sym (nothing bs e)))
 
@@ -44,7 +44,7 @@ pub naming-next :
     (names : List ℕ) (place left : ℕ) (rest : List ℕ) →
     Naming names place left rest →
     0 < left →
-    Naming names place (left - 1) (behind space rest)
+    Naming names place (left - 1) (afterFirst space rest)
 naming-next names place zero rest p h = absurd (omega arith)
 naming-next names place (suc left) rest p h =
     let back : suc left - 1 ≡ left = omega arith in

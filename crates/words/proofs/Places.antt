@@ -9,40 +9,40 @@ use borrow.Author.Tests.{eqb-true, eq-eqb}
 use lib.Dec.{eqb}
 use lib.ListN.{length}
 use Rattle.text.specs.Lines.{space}
-use Rattle.words.specs.Words.{run, upTo, behind, pieces, same, placeIn}
+use Rattle.words.specs.Words.{runLength, upTo, afterFirst, pieces, sameBytes, placeIn}
 use Rattle.words.proofs.Runs.{run-le}
-use Rattle.words.proofs.Pieces.{laterPieces, pieces-first, pieces-last, pieces-more, up-to-whole, behind-shorter}
+use Rattle.words.proofs.Pieces.{laterPieces, pieces-first, pieces-last, pieces-more, up-to-whole, after-shorter}
 
-same-refl : (s : List ℕ) → same s s ≡ true
-unfolding same
+same-refl : (s : List ℕ) → sameBytes s s ≡ true
+unfolding sameBytes
 same-refl [] = refl
 same-refl (a ∷ s) = rw (eq-eqb a a refl, same-refl s)
 
-same-eq : (s t : List ℕ) → same s t ≡ true → s ≡ t
-unfolding same
+same-eq : (s t : List ℕ) → sameBytes s t ≡ true → s ≡ t
+unfolding sameBytes
 same-eq [] [] e = refl
 same-eq [] (b ∷ t) e = absurd (false≢true e)
 same-eq (a ∷ s) [] e = absurd (false≢true e)
 same-eq (a ∷ s) (b ∷ t) e =
-    let both = and-eq-true-iff (eqb a b) (same s t) .0 e in
+    let both = and-eq-true-iff (eqb a b) (sameBytes s t) .0 e in
     let head = eqb-true a b (both .0) in
     let rest = same-eq s t (both .1) in
     cc
 
 -- a test that holds just of equal lists is `same`
-same-is : (r : Bool) (s t : List ℕ) → (r ≡ true → s ≡ t) → (s ≡ t → r ≡ true) → r ≡ same s t
+same-is : (r : Bool) (s t : List ℕ) → (r ≡ true → s ≡ t) → (s ≡ t → r ≡ true) → r ≡ sameBytes s t
 same-is true s t f g = sym (rw (f refl) (same-refl t))
-same-is false s t f g = go (same s t) refl
+same-is false s t f g = go (sameBytes s t) refl
   where
-    go : (u : Bool) → same s t ≡ u → false ≡ same s t
+    go : (u : Bool) → sameBytes s t ≡ u → false ≡ sameBytes s t
     go true e = g (same-eq s t e) ∙ sym e
     go false e = sym e
 
-place-here : (n : List ℕ) (ns : List (List ℕ)) (w : List ℕ) → same n w ≡ true → placeIn (n ∷ ns) w ≡ 0
+place-here : (n : List ℕ) (ns : List (List ℕ)) (w : List ℕ) → sameBytes n w ≡ true → placeIn (n ∷ ns) w ≡ 0
 unfolding placeIn
 place-here n ns w e = rw e
 
-place-later : (n : List ℕ) (ns : List (List ℕ)) (w : List ℕ) → same n w ≡ false → placeIn (n ∷ ns) w ≡ suc (placeIn ns w)
+place-later : (n : List ℕ) (ns : List (List ℕ)) (w : List ℕ) → sameBytes n w ≡ false → placeIn (n ∷ ns) w ≡ suc (placeIn ns w)
 unfolding placeIn
 place-later n ns w e = rw e
 
@@ -58,26 +58,26 @@ pub record Placing (names word : List ℕ) (place : ℕ) (rest : List ℕ) : Typ
 pub placing-start : (names word : List ℕ) → Placing names word 0 names
 placing-start names word = record { count = omega arith; room = omega arith }
 
--- what is told of the first name
+-- what the comparison with the first name answers
 pub first-same :
     (word rest got : List ℕ) (r : Bool) →
     got ≡ upTo space rest →
     (r ≡ true → got ≡ word) × (got ≡ word → r ≡ true) →
-    r ≡ same (upTo space rest) word
-first-same word rest got r e h = same-is r got word (h .0) (h .1) ∙ ap (λ s. same s word) e
+    r ≡ sameBytes (upTo space rest) word
+first-same word rest got r e h = same-is r got word (h .0) (h .1) ∙ ap (λ s. sameBytes s word) e
 
 module _ (names word : List ℕ) (place : ℕ) (rest : List ℕ) (p : Placing names word place rest) where
   abbrev first : List ℕ
   first = upTo space rest
 
-  pub placing-found : same first word ≡ true → place ≡ placeIn (pieces space names) word
+  pub placing-found : sameBytes first word ≡ true → place ≡ placeIn (pieces space names) word
   placing-found e =
       let here = ap (λ ps. placeIn ps word) (pieces-first space rest) ∙ place-here first (laterPieces space rest) word e in
       omega (arith, p .count)
 
   pub placing-end :
-      same first word ≡ false →
-      run false space rest ≡ length rest →
+      sameBytes first word ≡ false →
+      runLength false space rest ≡ length rest →
       place + 1 ≡ placeIn (pieces space names) word
   placing-end e end =
       let later = place-later rest [] word (rw (up-to-whole space rest end) at e) in
@@ -85,11 +85,11 @@ module _ (names word : List ℕ) (place : ℕ) (rest : List ℕ) (p : Placing na
       omega (arith, p .count, place-nowhere word)
 
   pub placing-next :
-      same first word ≡ false →
-      (run false space rest ≡ length rest → ⊥) →
-      Placing names word (place + 1) (behind space rest)
+      sameBytes first word ≡ false →
+      (runLength false space rest ≡ length rest → ⊥) →
+      Placing names word (place + 1) (afterFirst space rest)
   placing-next e more =
-      let some : run false space rest < length rest = omega (arith, run-le false space rest) in
-      let later = place-later first (pieces space (behind space rest)) word e in
+      let some : runLength false space rest < length rest = omega (arith, run-le false space rest) in
+      let later = place-later first (pieces space (afterFirst space rest)) word e in
       let split = ap (λ ps. placeIn ps word) (pieces-more space rest some) in
-      record { count = omega (arith, p .count); room = omega (arith, p .room, behind-shorter space rest more) }
+      record { count = omega (arith, p .count); room = omega (arith, p .room, after-shorter space rest more) }

@@ -1,10 +1,14 @@
-// How a text falls into lines, and a line into words.
+// How a text is split into lines, and a line into words; the weekdays by name.
 ghost use mathlib.Core.Path.{_≡_};
-ghost use Rattle.words.specs.Words.{separates as separatesAs, belongs as belongsTo, run as runOf, upTo, behind as behindOf, trimmed as trimmedOf, firstWord, afterWord, pieces, placeIn, nameAt};
+ghost use Rattle.text.specs.Lines.{space};
+ghost use Rattle.words.specs.Names.{weekdayNames};
+ghost use Rattle.words.specs.Words.{isSeparator, inRun, runLength, upTo, afterFirst, trimmed, firstWord, afterWord, pieces, placeIn, nameAt};
+
+pub const WEEKDAYS: [u8; 56] = *b"monday tuesday wednesday thursday friday saturday sunday";
 
 // Where the separator is a space, a tab and a carriage return separate too.
 fn separates(separator: u8, b: u8) -> bool
-    ensures { λ r. ⌜ r ≡ separatesAs separator b ⌝ }
+    ensures { λ r. ⌜ r ≡ isSeparator separator b ⌝ }
 {
     if b == separator {
         return true;
@@ -19,7 +23,7 @@ fn separates(separator: u8, b: u8) -> bool
 }
 
 fn belongs(separators: bool, separator: u8, b: u8) -> bool
-    ensures { λ r. ⌜ r ≡ belongsTo separators separator b ⌝ }
+    ensures { λ r. ⌜ r ≡ inRun separators separator b ⌝ }
 {
     if separators {
         separates(separator, b)
@@ -28,9 +32,9 @@ fn belongs(separators: bool, separator: u8, b: u8) -> bool
     }
 }
 
-// How many separators, or other bytes, stand at the front.
-pub fn run(s: &[u8], separator: u8, separators: bool) -> usize
-    ensures { λ r. ⌜ r ≡ runOf separators separator (now (s .entry)) ⌝ }
+// How many bytes at the front are separators, or are none.
+pub fn run_length(s: &[u8], separator: u8, separators: bool) -> usize
+    ensures { λ r. ⌜ r ≡ runLength separators separator (now (s .entry)) ⌝ }
 {
     let mut i = 0;
     while i < s.len() {
@@ -42,17 +46,19 @@ pub fn run(s: &[u8], separator: u8, separators: bool) -> usize
     i
 }
 
+// The bytes before the first separator.
 pub fn up_to(s: &[u8], separator: u8) -> &[u8]
     ensures { λ r. ⌜ now r ≡ upTo separator (now (s .entry)) ⌝ }
 {
-    let length = run(s, separator, false);
+    let length = run_length(s, separator, false);
     &s[..length]
 }
 
-pub fn behind(s: &[u8], separator: u8) -> &[u8]
-    ensures { λ r. ⌜ now r ≡ behindOf separator (now (s .entry)) ⌝ }
+// The bytes after the first separator.
+pub fn after(s: &[u8], separator: u8) -> &[u8]
+    ensures { λ r. ⌜ now r ≡ afterFirst separator (now (s .entry)) ⌝ }
 {
-    let end = run(s, separator, false);
+    let end = run_length(s, separator, false);
     if end == s.len() {
         return &s[end..];
     }
@@ -60,10 +66,10 @@ pub fn behind(s: &[u8], separator: u8) -> &[u8]
     &s[next..]
 }
 
-fn trimmed(s: &[u8]) -> &[u8]
-    ensures { λ r. ⌜ now r ≡ trimmedOf (now (s .entry)) ⌝ }
+fn trim(s: &[u8]) -> &[u8]
+    ensures { λ r. ⌜ now r ≡ trimmed (now (s .entry)) ⌝ }
 {
-    let start = run(s, b' ', true);
+    let start = run_length(s, b' ', true);
     &s[start..]
 }
 
@@ -71,18 +77,19 @@ fn trimmed(s: &[u8]) -> &[u8]
 pub fn first_word(s: &[u8]) -> &[u8]
     ensures { λ r. ⌜ now r ≡ firstWord (now (s .entry)) ⌝ }
 {
-    up_to(trimmed(s), b' ')
+    up_to(trim(s), b' ')
 }
 
+// What follows the first word.
 pub fn after_word(s: &[u8]) -> &[u8]
     ensures { λ r. ⌜ now r ≡ afterWord (now (s .entry)) ⌝ }
 {
-    behind(trimmed(s), b' ')
+    after(trim(s), b' ')
 }
 
 // The place of a word among names with a space between them; of a word that is none of them, how many names there are.
 pub fn place_in(names: &[u8], word: &[u8]) -> usize
-    ensures { λ r. ⌜ r ≡ placeIn (pieces 32 (now (names .entry))) (now (word .entry)) ⌝ }
+    ensures { λ r. ⌜ r ≡ placeIn (pieces space (now (names .entry))) (now (word .entry)) ⌝ }
 {
     let mut place: usize = 0;
     let mut rest = names;
@@ -91,24 +98,31 @@ pub fn place_in(names: &[u8], word: &[u8]) -> usize
             return place;
         }
         place += 1;
-        if run(rest, b' ', false) == rest.len() {
+        if run_length(rest, b' ', false) == rest.len() {
             return place;
         }
-        let others = behind(rest, b' ');
+        let others = after(rest, b' ');
         rest = others;
     }
 }
 
 // The name at a place, empty where there is none.
 pub fn name_at(names: &[u8], place: usize) -> &[u8]
-    ensures { λ r. ⌜ now r ≡ nameAt (pieces 32 (now (names .entry))) place ⌝ }
+    ensures { λ r. ⌜ now r ≡ nameAt (pieces space (now (names .entry))) place ⌝ }
 {
     let mut left = place;
     let mut rest = names;
     while 0 < left {
-        let others = behind(rest, b' ');
+        let others = after(rest, b' ');
         rest = others;
         left -= 1;
     }
     up_to(rest, b' ')
+}
+
+// The place of a weekday's name, 0 for monday; 7 for a word that is none.
+pub fn weekday_place(word: &[u8]) -> usize
+    ensures { λ r. ⌜ r ≡ placeIn weekdayNames (now (word .entry)) ⌝ }
+{
+    place_in(&WEEKDAYS, word)
 }

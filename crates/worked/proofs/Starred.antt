@@ -5,16 +5,17 @@ use mathlib.Core.List.{map}
 use Rattle.days.specs.Days.{inRange, dayOf}
 use Rattle.integers.specs.Integers.{floorOver, reduced}
 use Rattle.civil.specs.Calendar.{leap, monthDays, lost, dateExists}
-use Rattle.civil.specs.Serial.{before, serial}
+use Rattle.civil.specs.Serial.{before, serialOf}
 use Rattle.civil.proofs.Laws.{counted, by-count}
-use Rattle.saka.specs.LunarDays.{lunarDay, fieldsInRange, yearInRange, extraMonths, reckonedDay, havingWeekday, numberAt, answerFrom, dayOn}
-use Rattle.longitudes.specs.Longitudes.{difference, table, meanLongitude, longitudeAt, longitudesAt}
+use Rattle.saka.specs.LunarDays.{lunarDay, fieldsInRange, yearInRange, extraMonths, reckonedDay, havingWeekday, integerDay, answerFrom, dayOn}
+use Rattle.longitudes.specs.Longitudes.{differenceOf, table, meanLongitude, longitudeAt, longitudesAt}
 use Rattle.longitudes.specs.Answers.{longitudesOf}
 use Rattle.panchanga.specs.TrueLongitudes.{bhuja, equation, signed, corrected, trueLongitude}
 use Rattle.panchanga.specs.Elements.{karanaAfter}
 use Rattle.panchanga.specs.OnDays.{trueSunAt, trueMoonAt, tithiAt, nakshatraAt, yogaAt, karanaAt, panchangaOf}
-use Rattle.query.specs.Conditions.{meets, within, arcsMet, elementsMet, askedInRange, arcInRange, arcsInRange, conditionsInRange}
-use Rattle.query.specs.Query.{matches, sunInArc, nextDay, refusalOf}
+use Rattle.query.specs.Conditions.{meets, inArc, arcsMet, elementsMet, askedInRange, arcInRange, arcsInRange, conditionsInRange}
+use Rattle.query.specs.Query.{conditionsMet, refusalOf}
+use Rattle.search.specs.Look.{sunInArc, nextDay}
 use Rattle.search.specs.Days.{filtered, daysFrom, matchingDays, visitedFrom, visitedDays}
 use Rattle.search.specs.Search.{resultOf}
 use Rattle.worked.specs.Cases.{Case, starred}
@@ -23,8 +24,8 @@ pub starred-hold : map (λ (c : Case). c .found) starred ≡ map (λ (c : Case).
 unfolding starred
 starred-hold =
     simp by-count
-    (unfold inRange dayOf floorOver reduced leap monthDays lost dateExists before serial counted lunarDay fieldsInRange yearInRange
-    extraMonths reckonedDay havingWeekday numberAt answerFrom dayOn difference table meanLongitude longitudeAt longitudesAt
+    (unfold inRange dayOf floorOver reduced leap monthDays lost dateExists before serialOf counted lunarDay fieldsInRange yearInRange
+    extraMonths reckonedDay havingWeekday integerDay answerFrom dayOn differenceOf table meanLongitude longitudeAt longitudesAt
     longitudesOf bhuja equation signed corrected trueLongitude karanaAfter trueSunAt trueMoonAt tithiAt nakshatraAt yogaAt karanaAt
-    panchangaOf meets within arcsMet elementsMet askedInRange arcInRange arcsInRange conditionsInRange matches sunInArc nextDay
+    panchangaOf meets inArc arcsMet elementsMet askedInRange arcInRange arcsInRange conditionsInRange conditionsMet sunInArc nextDay
     refusalOf filtered daysFrom matchingDays visitedFrom visitedDays resultOf in refl)

@@ -14,9 +14,9 @@ use Rattle.panchanga.specs.declared.Panchanga.{Panchanga}
 use Rattle.panchanga.specs.OnDays.{panchangaOf}
 use Rattle.query.specs.declared.Query.{Query}
 use Rattle.query.specs.Conditions.{notAsked, noArc}
-use Rattle.query.specs.Query.{sunOn}
+use Rattle.search.specs.Look.{sunOn}
 use Rattle.search.specs.Days.{matchingDays, visitedDays}
-use Rattle.search.specs.Search.{resultOf, told}
+use Rattle.search.specs.Search.{resultOf, unlessRefused}
 
 -- what the meanings give, and what the paper says
 pub record Case : Type 0 where
@@ -62,7 +62,7 @@ twoYears =
 
 -- a search with room for so many days: the result, the number of matching days, the number of days examined
 abbrev pub search : Query → ℕ → List ℕ
-search q room = resultOf q room ∷ told q (length (matchingDays q)) ∷ told q (length (visitedDays q)) ∷ []
+search q room = resultOf q room ∷ unlessRefused q (length (matchingDays q)) ∷ unlessRefused q (length (visitedDays q)) ∷ []
 
 unfoldable pub starred : List Case
 starred =

@@ -1,6 +1,6 @@
 -- `arcs` meets its contract: arc by arc.
 use borrow.Author.Needs.{needs}
-use Rattle.bridge.specs.Bytes.{arcsOf}
+use Rattle.bridge.specs.Bytes.{arcsFrom}
 use Rattle.bridge.proofs.arcs.Statement.{statement}
 use Rattle.bridge.proofs.arcs.Tie as tie
 
@@ -32,7 +32,7 @@ arc-requires-9 : tie.Need-arc-requires-9
 arc-requires-9 c κs = search needs
 
 returns : tie.Need-returns
-unfolding arcsOf
+unfolding arcsFrom
 returns c = cc
 
 pub arcs-spec : {M : Type 1} → statement M

@@ -1,14 +1,14 @@
 -- `query_of` meets its contract: part by part.
 use borrow.Author.Needs.{needs}
-use Rattle.bridge.specs.Bytes.{queryOf}
+use Rattle.bridge.specs.Bytes.{queryFrom}
 use Rattle.bridge.proofs.query_of.Statement.{statement}
 use Rattle.bridge.proofs.query_of.Tie as tie
 
-entry-at-requires : tie.Need-entry-at-requires
-entry-at-requires c κs = search needs
+number-requires : tie.Need-number-requires
+number-requires c κs = search needs
 
-entry-at-requires-2 : tie.Need-entry-at-requires-2
-entry-at-requires-2 c κs = search needs
+number-requires-2 : tie.Need-number-requires-2
+number-requires-2 c κs = search needs
 
 asked-requires : tie.Need-asked-requires
 asked-requires c κs = search needs
@@ -26,15 +26,15 @@ arcs-requires : tie.Need-arcs-requires
 arcs-requires c κs = search needs
 
 returns : tie.Need-returns
-unfolding queryOf
+unfolding queryFrom
 returns c = cc
 
 pub query-of-spec : {M : Type 1} → statement M
 query-of-spec =
     tie.close
     (tie.spec
-    entry-at-requires
-    entry-at-requires-2
+    number-requires
+    number-requires-2
     asked-requires
     asked-requires-2
     asked-requires-3

@@ -1,59 +1,44 @@
--- `heading` meets its contract: what is put one after another is put at once, and it fits. Assumes nothing.
-use mathlib.Core.List.{append-assoc}
+-- `heading` meets its contract: its line is put at the front where it fits. Assumes nothing.
 use native.Mathlib.Omega.{arith}
-use Rattle.text.proofs.Lines.{with-bytes-append}
-use Rattle.sheet.proofs.Fitting.{holds}
-use Rattle.catalogue.specs.Catalogue.{heading}
-use Rattle.catalogue.proofs.DayLines.{heading-fits}
+use Rattle.catalogue.proofs.Filling.{holds-room}
+use Rattle.catalogue.proofs.Headings.{line-refused, line-put}
 use borrow.Author.Needs.{needs}
 use Rattle.catalogue.proofs.heading.Statement.{statement}
 use Rattle.catalogue.proofs.heading.Tie as tie
 
-empty-requires : tie.Need-empty-requires
-empty-requires c κs = search needs
+heading-line-requires : tie.Need-heading-line-requires
+heading-line-requires c κs = search needs
 
-slice-aggregate-text : tie.Need-slice-aggregate-text
-slice-aggregate-text c = search needs
-
-text-requires : tie.Need-text-requires
-text-requires c κs = search needs
-
-number-requires : tie.Need-number-requires
-number-requires c κs = search needs
-
-slice-aggregate-text-2 : tie.Need-slice-aggregate-text-2
-slice-aggregate-text-2 c = search needs
-
-text-requires-2 : tie.Need-text-requires-2
-text-requires-2 c κs = search needs
-
-number-requires-2 : tie.Need-number-requires-2
-number-requires-2 c κs = search needs
-
-slice-aggregate-text-3 : tie.Need-slice-aggregate-text-3
-slice-aggregate-text-3 c = search needs
-
-text-requires-3 : tie.Need-text-requires-3
-text-requires-3 c κs = search needs
+refused-requires : tie.Need-refused-requires
+refused-requires c κs = search needs
 
 returns : tie.Need-returns
-unfolding heading
-returns c =
-    holds _ _ (heading-fits _ _ (omega arith) (omega arith))
-    (rw (c .text3 .ensures, c .before .before .number2 .ensures, c .before .before .before .text2 .ensures, c .before .before .before .before .before .number .ensures, c .before .before .before .before .before .before .text .ensures, c .before .before .before .before .before .before .before .before .empty .ensures)
-    (simp (with-bytes-append, append-assoc)))
+returns c = rw (c .refused .ensures) (line-refused _ _ _ _ (c .before .before .heading-line .ensures) (c .before .if1 .taken))
+
+put-requires : tie.Need-put-requires
+put-requires c κs =
+    let room = holds-room (c .before .before .heading-line .ensures) in
+    (room .0, room .1, omega (arith, c .before .if1 .left))
+
+accepted-requires : tie.Need-accepted-requires
+accepted-requires c κs = search needs
+
+same-length : tie.Need-same-length
+same-length c = search needs
+
+returns-2 : tie.Need-returns-2
+returns-2 c =
+    let made = c .before .before .before .before .before .before in
+    rw (c .accepted .ensures, c .before .before .before .put .ensures) (line-put _ _ _ _ (made .heading-line .ensures) (c .before .before .before .before .before .if1 .left))
 
 pub heading-spec : {M : Type 1} → statement M
 heading-spec =
     tie.close
     (tie.spec
-    empty-requires
-    slice-aggregate-text
-    text-requires
-    number-requires
-    slice-aggregate-text-2
-    text-requires-2
-    number-requires-2
-    slice-aggregate-text-3
-    text-requires-3
-    returns)
+    heading-line-requires
+    refused-requires
+    returns
+    put-requires
+    accepted-requires
+    same-length
+    returns-2)

@@ -1,7 +1,7 @@
 -- `put_elements` meets its contract: what is put one after another is put at once. Assumes nothing.
 use mathlib.Core.List.{append-assoc, append-nil}
 use Rattle.text.proofs.Lines.{with-byte-is, with-bytes-append}
-use Rattle.sheet.specs.Sheets.{spaced}
+use Rattle.text.specs.Lines.{spaced}
 use Rattle.catalogue.specs.Catalogue.{elementBytes}
 use borrow.Author.Needs.{needs}
 use Rattle.catalogue.proofs.put_elements.Statement.{statement}

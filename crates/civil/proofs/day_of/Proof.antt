@@ -1,6 +1,5 @@
 -- `day_of` meets its contract: the search from date to date is the count of days.
 use mathlib.Core.Bool.{true}
-use mathlib.Core.Logic.{⊎-elim}
 use mathlib.Core.Path.{_≡_, sym, _∙_}
 use borrow.Author.Needs.{needs}
 use borrow.Author.Tests.{not-true, not-false, le-leb, lt-leb}
@@ -35,18 +34,21 @@ cast-if3 c = search needs
 cast-number : tie.Need-cast-number
 cast-number c = search needs
 
+accepted-requires : tie.Need-accepted-requires
+accepted-requires c κs = search needs
+
 returns-2 : tie.Need-returns-2
 unfolding counted
-returns-2 c = rw (by-count (c .before .before .before .before .before .args .date), ok (c .before .before .before), ← c .before .before .serial .ensures, le-leb _ _ (c .before .if2 .taken), le-leb _ _ (c .if3 .taken))
-
-refused-requires-2 : tie.Need-refused-requires-2
-refused-requires-2 c κs = search needs
+returns-2 c =
+    rw (c .accepted .ensures, by-count (c .before .before .before .before .before .before .args .date), ok (c .before .before .before .before), ← c .before .before .before .serial .ensures, le-leb _ _ (c .before .before .if2 .taken), le-leb _ _ (c .before .if3 .taken))
 
 returns-3 : tie.Need-returns-3
 unfolding counted
-returns-3 c =
-    rw (c .refused2 .ensures, by-count (c .before .before .before .before .before .args .date), ok (c .before .before .before), ← c .before .before .serial .ensures)
-    (⊎-elim (λ w. rw (le-leb _ _ (w .0 .taken), lt-leb _ _ (w .1 .left))) (λ w. rw (lt-leb _ _ (w .left))) (c .before .if2 .came))
+returns-3 c = rw (by-count (c .before .before .before .before .before .args .date), ok (c .before .before .before), ← c .before .before .serial .ensures, le-leb _ _ (c .before .if2 .taken), lt-leb _ _ (c .if3 .left))
+
+returns-4 : tie.Need-returns-4
+unfolding counted
+returns-4 c = rw (by-count (c .before .before .before .before .args .date), ok (c .before .before), ← c .before .serial .ensures, lt-leb _ _ (c .if2 .left))
 
 pub day-of-spec : {M : Type 1} → statement M
 day-of-spec =
@@ -58,6 +60,7 @@ day-of-spec =
     serial-requires
     cast-if3
     cast-number
+    accepted-requires
     returns-2
-    refused-requires-2
-    returns-3)
+    returns-3
+    returns-4)

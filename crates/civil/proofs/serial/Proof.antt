@@ -3,7 +3,7 @@ use mathlib.Core.Path.{_≡_, ap}
 use Prim.Native.Nat.{_+_, _-_}
 use native.Mathlib.Omega.{arith}
 use borrow.Author.Needs.{needs}
-use Rattle.civil.specs.Serial.{before, yearDay, serial}
+use Rattle.civil.specs.Serial.{before, yearDay, serialOf}
 use Rattle.civil.proofs.serial.Statement.{statement}
 use Rattle.civil.proofs.serial.Tie as tie
 
@@ -35,7 +35,7 @@ add-result : tie.Need-add-result
 add-result c = search needs
 
 returns : tie.Need-returns
-unfolding serial
+unfolding serialOf
 returns c =
     let x = c .before .before .before .before .before .before .args .date in
     let n : c .before .before .before .days-before .result + x .day - 1 ≡ yearDay (x .month) (x .day) = omega (arith, c .before .before .before .days-before .ensures, ap before (c .before .before .before .before .place-of .ensures)) in

@@ -1,55 +1,76 @@
--- `print_days` is safe and ends: the list has an entry for each day found, and the buffer keeps its length. Assumes nothing.
-use Prim.Native.Nat.{_-_, _≤_}
-use mathlib.Core.Path.{_≡_}
-use borrow.Author.Needs.{needs}
+-- `print_days` meets its contract: the output from the bytes written on begins with the lines that are still due (Printing), and a piece is the
+-- front of these. Their bytes are the measure. Assumes nothing.
+use mathlib.Core.Path.{sym, _∙_}
+use mathlib.Core.Bool.{false≢true}
+use native.Mathlib.Omega.{arith}
 use lib.ListN.{length}
+use Rattle.catalogue.specs.Pieces.{listedFrom, dayLines}
+use Rattle.find.proofs.Printing.{Printing, printing-start, step, next-piece, printed, countable, fewer, printing-step}
+use borrow.Author.Needs.{needs}
 use Rattle.find.proofs.print_days.Statement.{statement}
 use Rattle.find.proofs.print_days.Tie as tie
 
 abbrev Inv-loop : tie.InvT-loop
-Inv-loop list buffer₀ output₀ count i₀ buffer output i = (length buffer ≡ length buffer₀) × ((i ≤ count) × (output .used ≤ length buffer))
+Inv-loop query before days buffer₀ written₀ next₀ buffer written next = Printing query days before (length buffer₀) buffer written next
 
 abbrev μ-loop : tie.MeasureT-loop
-μ-loop list buffer₀ output₀ count i₀ buffer output i = count - i
-
-heading-requires : tie.Need-heading-requires Inv-loop μ-loop
-heading-requires c κs = search needs
-
-print-requires : tie.Need-print-requires Inv-loop μ-loop
-print-requires c κs = search needs
-
-cast-count : tie.Need-cast-count Inv-loop μ-loop
-cast-count c = search needs
+μ-loop query before days buffer₀ written₀ next₀ buffer written next = length (dayLines (listedFrom days next))
 
 loop-holds : tie.Need-loop-holds Inv-loop μ-loop
-loop-holds c = search needs
+loop-holds c = printing-start _ _ _ _ (c .before .before .pre .1) (c .before .before .pre .2)
 
-entry-at-requires : tie.Need-entry-at-requires Inv-loop μ-loop
-entry-at-requires c κs = search needs
-
-day-line-requires : tie.Need-day-line-requires Inv-loop μ-loop
-day-line-requires c κs = search needs
-
-print-requires-2 : tie.Need-print-requires-2 Inv-loop μ-loop
-print-requires-2 c κs = search needs
-
-add-i : tie.Need-add-i Inv-loop μ-loop
-add-i c = search needs
-
-loop-less : tie.Need-loop-less Inv-loop μ-loop
-loop-less c = search needs
-
-loop-again : tie.Need-loop-again Inv-loop μ-loop
-loop-again c = search needs
-
-flush-requires : tie.Need-flush-requires Inv-loop μ-loop
-flush-requires c κs = search needs
+lines-requires : tie.Need-lines-requires Inv-loop μ-loop
+lines-requires c κs = search needs
 
 same-length : tie.Need-same-length Inv-loop μ-loop
-same-length c = search needs
+same-length c =
+    let called = c .before .before .before in
+    called .lines .kept .1 .1 .0 ∙ called .before .before .loop .inv .same
 
 returns : tie.Need-returns Inv-loop μ-loop
-returns c = search needs
+returns c =
+    let called = c .before .before .before in
+    λ _. printed _ _ _ _ _ _ _ (called .before .before .loop .inv) _ _ (called .lines .ensures .0) (called .lines .ensures .1) (c .if1 .taken)
+
+slice-reshare-prefix-write-next : tie.Need-slice-reshare-prefix-write-next Inv-loop μ-loop
+slice-reshare-prefix-write-next c =
+    let called = c .before .before .before in
+    let going = step _ _ _ _ _ _ _ (called .before .before .loop .inv) _ _ (called .lines .ensures .0) (called .lines .ensures .1) in
+    omega (arith, going .within, called .lines .kept .1 .1 .0)
+
+slice-aggregate-write-next : tie.Need-slice-aggregate-write-next Inv-loop μ-loop
+slice-aggregate-write-next c =
+    let called = c .before .before .before .before in
+    let going = step _ _ _ _ _ _ _ (called .before .before .loop .inv) _ _ (called .lines .ensures .0) (called .lines .ensures .1) in
+    sym (going .front)
+
+write-next-requires : tie.Need-write-next-requires Inv-loop μ-loop
+write-next-requires c κs =
+    let called = c .before .before .before .before in
+    next-piece _ _ _ _ _ _ _ (called .before .before .loop .inv) _ _ (called .lines .ensures .0) (called .lines .ensures .1)
+
+same-length-2 : tie.Need-same-length-2 Inv-loop μ-loop
+same-length-2 c =
+    let called = c .before .before .before .before .before .before in
+    called .lines .kept .1 .1 .0 ∙ called .before .before .loop .inv .same
+
+returns-2 : tie.Need-returns-2 Inv-loop μ-loop
+returns-2 c = λ e. absurd (false≢true e)
+
+add-written : tie.Need-add-written Inv-loop μ-loop
+add-written c =
+    let called = c .before .before .before .before .before .before in
+    omega (arith, countable _ _ _ _ _ _ _ (called .before .before .loop .inv) _ _ (called .lines .ensures .0) (called .lines .ensures .1) (called .before .before .before .before .before .pre .0) (c .before .before .before .if1 .left))
+
+loop-less : tie.Need-loop-less Inv-loop μ-loop
+loop-less c =
+    let called = c .before .before .before .before .before .before in
+    fewer _ _ _ _ _ _ _ (called .before .before .loop .inv) _ _ (called .lines .ensures .0) (called .lines .ensures .1) (c .before .before .before .if1 .left)
+
+loop-again : tie.Need-loop-again Inv-loop μ-loop
+loop-again c =
+    let called = c .before .before .before .before .before .before in
+    printing-step _ _ _ _ _ _ _ (called .before .before .loop .inv) _ _ (called .lines .ensures .0) (called .lines .ensures .1) (called .lines .kept .1 .1 .0)
 
 pub print-days-spec : {M : Type 1} → statement M
 print-days-spec =
@@ -57,16 +78,15 @@ print-days-spec =
     (tie.spec
     Inv-loop
     μ-loop
-    heading-requires
-    print-requires
-    cast-count
     loop-holds
-    entry-at-requires
-    day-line-requires
-    print-requires-2
-    add-i
-    loop-less
-    loop-again
-    flush-requires
+    lines-requires
     same-length
-    returns)
+    returns
+    slice-reshare-prefix-write-next
+    slice-aggregate-write-next
+    write-next-requires
+    same-length-2
+    returns-2
+    add-written
+    loop-less
+    loop-again)

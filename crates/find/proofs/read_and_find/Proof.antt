@@ -1,5 +1,6 @@
--- `read_and_find` is safe and ends: an accepted page's query is not refused. Assumes nothing.
-use Rattle.find.proofs.Room.{accepted-query}
+-- `read_and_find` is safe and ends: an accepted page's query is not refused, and the number of a line at fault fits. Assumes nothing.
+use native.Mathlib.Omega.{arith}
+use Rattle.find.proofs.Pages.{accepted-query, small-number}
 use borrow.Author.Needs.{needs}
 use Rattle.find.proofs.read_and_find.Statement.{statement}
 use Rattle.find.proofs.read_and_find.Tie as tie
@@ -10,14 +11,14 @@ read-input-requires c κs = search needs
 refusal-line-requires : tie.Need-refusal-line-requires
 refusal-line-requires c κs = search needs
 
-write-line-requires : tie.Need-write-line-requires
-write-line-requires c κs = search needs
+print-requires : tie.Need-print-requires
+print-requires c κs = search needs
 
-slice-aggregate-write-all : tie.Need-slice-aggregate-write-all
-slice-aggregate-write-all c = search needs
+unreadable-page-requires : tie.Need-unreadable-page-requires
+unreadable-page-requires c κs = search needs
 
-write-all-requires : tie.Need-write-all-requires
-write-all-requires c κs = search needs
+say-requires : tie.Need-say-requires
+say-requires c κs = search needs
 
 same-length : tie.Need-same-length
 same-length c = search needs
@@ -35,7 +36,10 @@ read-requires : tie.Need-read-requires
 read-requires c κs = search needs
 
 refuse-requires : tie.Need-refuse-requires
-refuse-requires c κs = search needs
+refuse-requires c κs =
+    let got = c .before .before .before .before .before .before .before in
+    small-number _ _ (c .before .before .read .ensures)
+    (omega (arith, got .read-input .ensures .0, got .read-input .ensures .1, got .read-input .kept .0, got .before .before .before .pre))
 
 same-length-2 : tie.Need-same-length-2
 same-length-2 c = search needs
@@ -58,9 +62,9 @@ read-and-find-spec =
     (tie.spec
     read-input-requires
     refusal-line-requires
-    write-line-requires
-    slice-aggregate-write-all
-    write-all-requires
+    print-requires
+    unreadable-page-requires
+    say-requires
     same-length
     returns
     slice-reshare-prefix-read

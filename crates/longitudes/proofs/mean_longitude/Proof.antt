@@ -21,14 +21,18 @@ number-requires c κs = search needs
 longitude-requires : tie.Need-longitude-requires
 longitude-requires c κs = (c .number .ensures .1, ok (c .before))
 
+accepted-requires : tie.Need-accepted-requires
+accepted-requires c κs = search needs
+
 returns : tie.Need-returns
 returns c =
-    ap theNumber (c .longitude .ensures ∙ ap (λ (b : ℕ). longitudeAt b (c .before .before .before .before .args .day)) (c .before .number .ensures .0))
-    ∙ sym (given _ _ (ok (c .before .before)))
+    c .accepted .ensures
+    ∙ ap theNumber (c .before .longitude .ensures ∙ ap (λ (b : ℕ). longitudeAt b (c .before .before .before .before .before .args .day)) (c .before .before .number .ensures .0))
+    ∙ sym (given _ _ (ok (c .before .before .before)))
 
 returns-2 : tie.Need-returns-2
 returns-2 c = sym (refused _ _ (sym (c .before .in-range .ensures) ∙ c .if1 .left))
 
 pub mean-longitude-spec : {M : Type 1} → statement M
 mean-longitude-spec =
-    tie.close (tie.spec in-range-requires number-requires longitude-requires returns returns-2)
+    tie.close (tie.spec in-range-requires number-requires longitude-requires accepted-requires returns returns-2)

@@ -1,4 +1,4 @@
--- `condition` meets its contract: values of another form, dates that are refused, and the query of this condition alone.
+-- `condition` meets its contract: malformed values, dates that are refused, and the query of this condition alone.
 -- Assumes nothing.
 use mathlib.Core.Path.{_∙_}
 use borrow.Author.Tests.{eq-eqb, ne-eqb}
@@ -7,42 +7,42 @@ use borrow.Author.Needs.{needs}
 use Rattle.page.proofs.condition.Statement.{statement}
 use Rattle.page.proofs.condition.Tie as tie
 
-graver-requires : tie.Need-graver-requires
-graver-requires c κs = search needs
+first-refusal-requires : tie.Need-first-refusal-requires
+first-refusal-requires c κs = search needs
 
-other-form-requires : tie.Need-other-form-requires
-other-form-requires c κs = search needs
+malformed-requires : tie.Need-malformed-requires
+malformed-requires c κs = search needs
 
 returns : tie.Need-returns
 unfolding conditionRead
-returns c = c .other-form .ensures ∙ rw (← c .before .before .graver .ensures, eq-eqb _ _ (c .before .if1 .taken))
+returns c = c .malformed .ensures ∙ rw (← c .before .before .first-refusal .ensures, eq-eqb _ _ (c .before .if1 .taken))
 
 returns-2 : tie.Need-returns-2
 unfolding conditionRead
-returns-2 c = rw (← c .before .before .graver .ensures, ne-eqb _ _ (c .before .if1 .left), ne-eqb _ _ (c .if2 .taken))
+returns-2 c = rw (← c .before .before .first-refusal .ensures, ne-eqb _ _ (c .before .if1 .left), ne-eqb _ _ (c .if2 .taken))
 
 only-span-requires : tie.Need-only-span-requires
 only-span-requires c κs = search needs
 
-placed-requires : tie.Need-placed-requires
-placed-requires c κs = search needs
+with-condition-requires : tie.Need-with-condition-requires
+with-condition-requires c κs = search needs
 
 refusal-requires : tie.Need-refusal-requires
 refusal-requires c κs = search needs
 
 returns-3 : tie.Need-returns-3
 unfolding conditionRead
-returns-3 c = rw (← c .before .before .before .before .before .graver .ensures, ne-eqb _ _ (c .before .before .before .before .if1 .left), eq-eqb _ _ (c .before .before .before .if2 .left), c .refusal .ensures, c .before .placed .ensures, c .before .before .only-span .ensures)
+returns-3 c = rw (← c .before .before .before .before .before .first-refusal .ensures, ne-eqb _ _ (c .before .before .before .before .if1 .left), eq-eqb _ _ (c .before .before .before .if2 .left), c .refusal .ensures, c .before .with-condition .ensures, c .before .before .only-span .ensures)
 
 pub condition-spec : {M : Type 1} → statement M
 condition-spec =
     tie.close
     (tie.spec
-    graver-requires
-    other-form-requires
+    first-refusal-requires
+    malformed-requires
     returns
     returns-2
     only-span-requires
-    placed-requires
+    with-condition-requires
     refusal-requires
     returns-3)

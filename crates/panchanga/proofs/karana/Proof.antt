@@ -23,15 +23,15 @@ moon-on-requires c κs = ok (c .before)
 karana-of-requires : tie.Need-karana-of-requires
 karana-of-requires c κs = search needs
 
-told-requires : tie.Need-told-requires
-told-requires c κs = search needs
+accepted-requires : tie.Need-accepted-requires
+accepted-requires c κs = search needs
 
 returns : tie.Need-returns
 unfolding karanaAt
-returns c = c .told .ensures ∙ ap theNumber (cc (c .before .karana-of .ensures)) ∙ sym (given _ _ (ok (c .before .before .before .before)))
+returns c = c .accepted .ensures ∙ ap theNumber (cc (c .before .karana-of .ensures)) ∙ sym (given _ _ (ok (c .before .before .before .before)))
 
 returns-2 : tie.Need-returns-2
 returns-2 c = sym (refused _ _ (sym (c .before .in-range .ensures) ∙ c .if1 .left))
 
 pub karana-spec : {M : Type 1} → statement M
-karana-spec = tie.close (tie.spec in-range-requires sun-on-requires moon-on-requires karana-of-requires told-requires returns returns-2)
+karana-spec = tie.close (tie.spec in-range-requires sun-on-requires moon-on-requires karana-of-requires accepted-requires returns returns-2)

@@ -1,7 +1,9 @@
--- `karana_of` meets its contract: by the half tithis elapsed.
+-- `karana_of` meets its contract: by the half tithis elapsed, which are below 60.
 use borrow.Author.Needs.{needs}
 use mathlib.Core.Path.{ap, _∙_}
 use Prim.Native.Nat.{ℕ, _/_}
+use native.Mathlib.Omega.{arith}
+use Rattle.longitudes.proofs.Subtraction.{is-small}
 use Rattle.panchanga.specs.Elements.{karanaAfter}
 use Rattle.panchanga.proofs.karana_of.Statement.{statement}
 use Rattle.panchanga.proofs.karana_of.Tie as tie
@@ -10,7 +12,7 @@ difference-requires : tie.Need-difference-requires
 difference-requires c κs = search needs
 
 karana-after-requires : tie.Need-karana-after-requires
-karana-after-requires c κs = search needs
+karana-after-requires c κs = omega (arith, is-small _ _ _ (c .difference .ensures))
 
 returns : tie.Need-returns
 returns c = c .karana-after .ensures ∙ ap (λ (n : ℕ). karanaAfter (n / 21600)) (c .before .difference .ensures)

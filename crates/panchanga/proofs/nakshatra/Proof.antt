@@ -20,15 +20,15 @@ moon-on-requires c κs = ok c
 nakshatra-of-requires : tie.Need-nakshatra-of-requires
 nakshatra-of-requires c κs = search needs
 
-told-requires : tie.Need-told-requires
-told-requires c κs = search needs
+accepted-requires : tie.Need-accepted-requires
+accepted-requires c κs = search needs
 
 returns : tie.Need-returns
 unfolding nakshatraAt
-returns c = c .told .ensures ∙ ap theNumber (cc (c .before .nakshatra-of .ensures)) ∙ sym (given _ _ (ok (c .before .before .before)))
+returns c = c .accepted .ensures ∙ ap theNumber (cc (c .before .nakshatra-of .ensures)) ∙ sym (given _ _ (ok (c .before .before .before)))
 
 returns-2 : tie.Need-returns-2
 returns-2 c = sym (refused _ _ (sym (c .before .in-range .ensures) ∙ c .if1 .left))
 
 pub nakshatra-spec : {M : Type 1} → statement M
-nakshatra-spec = tie.close (tie.spec in-range-requires moon-on-requires nakshatra-of-requires told-requires returns returns-2)
+nakshatra-spec = tie.close (tie.spec in-range-requires moon-on-requires nakshatra-of-requires accepted-requires returns returns-2)

@@ -23,15 +23,15 @@ moon-on-requires c κs = ok (c .before)
 tithi-of-requires : tie.Need-tithi-of-requires
 tithi-of-requires c κs = search needs
 
-told-requires : tie.Need-told-requires
-told-requires c κs = search needs
+accepted-requires : tie.Need-accepted-requires
+accepted-requires c κs = search needs
 
 returns : tie.Need-returns
 unfolding tithiAt
-returns c = c .told .ensures ∙ ap theNumber (cc (c .before .tithi-of .ensures)) ∙ sym (given _ _ (ok (c .before .before .before .before)))
+returns c = c .accepted .ensures ∙ ap theNumber (cc (c .before .tithi-of .ensures)) ∙ sym (given _ _ (ok (c .before .before .before .before)))
 
 returns-2 : tie.Need-returns-2
 returns-2 c = sym (refused _ _ (sym (c .before .in-range .ensures) ∙ c .if1 .left))
 
 pub tithi-spec : {M : Type 1} → statement M
-tithi-spec = tie.close (tie.spec in-range-requires sun-on-requires moon-on-requires tithi-of-requires told-requires returns returns-2)
+tithi-spec = tie.close (tie.spec in-range-requires sun-on-requires moon-on-requires tithi-of-requires accepted-requires returns returns-2)

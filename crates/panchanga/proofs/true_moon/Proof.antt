@@ -16,14 +16,14 @@ in-range-requires c κs = search needs
 moon-on-requires : tie.Need-moon-on-requires
 moon-on-requires c κs = ok c
 
-told-requires : tie.Need-told-requires
-told-requires c κs = search needs
+accepted-requires : tie.Need-accepted-requires
+accepted-requires c κs = search needs
 
 returns : tie.Need-returns
-returns c = c .told .ensures ∙ ap theNumber (c .before .moon-on .ensures .0) ∙ sym (given _ _ (ok (c .before .before)))
+returns c = c .accepted .ensures ∙ ap theNumber (c .before .moon-on .ensures .0) ∙ sym (given _ _ (ok (c .before .before)))
 
 returns-2 : tie.Need-returns-2
 returns-2 c = sym (refused _ _ (sym (c .before .in-range .ensures) ∙ c .if1 .left))
 
 pub true-moon-spec : {M : Type 1} → statement M
-true-moon-spec = tie.close (tie.spec in-range-requires moon-on-requires told-requires returns returns-2)
+true-moon-spec = tie.close (tie.spec in-range-requires moon-on-requires accepted-requires returns returns-2)

@@ -16,14 +16,14 @@ in-range-requires c κs = search needs
 sun-on-requires : tie.Need-sun-on-requires
 sun-on-requires c κs = ok c
 
-told-requires : tie.Need-told-requires
-told-requires c κs = search needs
+accepted-requires : tie.Need-accepted-requires
+accepted-requires c κs = search needs
 
 returns : tie.Need-returns
-returns c = c .told .ensures ∙ ap theNumber (c .before .sun-on .ensures .0) ∙ sym (given _ _ (ok (c .before .before)))
+returns c = c .accepted .ensures ∙ ap theNumber (c .before .sun-on .ensures .0) ∙ sym (given _ _ (ok (c .before .before)))
 
 returns-2 : tie.Need-returns-2
 returns-2 c = sym (refused _ _ (sym (c .before .in-range .ensures) ∙ c .if1 .left))
 
 pub true-sun-spec : {M : Type 1} → statement M
-true-sun-spec = tie.close (tie.spec in-range-requires sun-on-requires told-requires returns returns-2)
+true-sun-spec = tie.close (tie.spec in-range-requires sun-on-requires accepted-requires returns returns-2)

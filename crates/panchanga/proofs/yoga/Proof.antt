@@ -23,15 +23,15 @@ moon-on-requires c κs = ok (c .before)
 yoga-of-requires : tie.Need-yoga-of-requires
 yoga-of-requires c κs = search needs
 
-told-requires : tie.Need-told-requires
-told-requires c κs = search needs
+accepted-requires : tie.Need-accepted-requires
+accepted-requires c κs = search needs
 
 returns : tie.Need-returns
 unfolding yogaAt
-returns c = c .told .ensures ∙ ap theNumber (cc (c .before .yoga-of .ensures)) ∙ sym (given _ _ (ok (c .before .before .before .before)))
+returns c = c .accepted .ensures ∙ ap theNumber (cc (c .before .yoga-of .ensures)) ∙ sym (given _ _ (ok (c .before .before .before .before)))
 
 returns-2 : tie.Need-returns-2
 returns-2 c = sym (refused _ _ (sym (c .before .in-range .ensures) ∙ c .if1 .left))
 
 pub yoga-spec : {M : Type 1} → statement M
-yoga-spec = tie.close (tie.spec in-range-requires sun-on-requires moon-on-requires yoga-of-requires told-requires returns returns-2)
+yoga-spec = tie.close (tie.spec in-range-requires sun-on-requires moon-on-requires yoga-of-requires accepted-requires returns returns-2)

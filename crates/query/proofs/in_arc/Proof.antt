@@ -3,9 +3,9 @@ use borrow.Author.Needs.{needs}
 use mathlib.Core.Path.{ap, _∙_}
 use Prim.Native.Nat.{ℕ}
 use Rattle.days.proofs.Laws.{given-number}
-use Rattle.longitudes.specs.Longitudes.{difference, longitudeAt}
+use Rattle.longitudes.specs.Longitudes.{differenceOf, longitudeAt}
 use Rattle.longitudes.specs.Answers.{bodyNumber}
-use Rattle.query.specs.Conditions.{within}
+use Rattle.query.specs.Conditions.{inArc}
 use Rattle.query.proofs.in_arc.Statement.{statement}
 use Rattle.query.proofs.in_arc.Tie as tie
 
@@ -16,14 +16,14 @@ difference-requires : tie.Need-difference-requires
 difference-requires c κs = search needs
 
 returns : tie.Need-returns
-unfolding within
+unfolding inArc
 returns c =
     let a = c .before .before .before .before .args in
     let sun = given-number (longitudeAt (bodyNumber (a .body))) (a .day) (c .before .before .mean-longitude .ensures) (c .before .before .before .before .pre) in
-    rw (c .before .before .before .if1 .taken, c .before .difference .ensures ∙ ap (λ (x : ℕ). difference x (a .arc .start)) sun)
+    rw (c .before .before .before .if1 .taken, c .before .difference .ensures ∙ ap (λ (x : ℕ). differenceOf x (a .arc .start)) sun)
 
 returns-2 : tie.Need-returns-2
-unfolding within
+unfolding inArc
 returns-2 c = rw (c .if1 .left)
 
 pub in-arc-spec : {M : Type 1} → statement M

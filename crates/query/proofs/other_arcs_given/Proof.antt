@@ -1,11 +1,12 @@
 -- `other_arcs_given` meets its contract. The loop's invariant: no arc passed is given. The measure is the arcs left.
 use mathlib.Core.Path.{_≡_}
-use mathlib.Core.Bool.{false, true≢false}
+use mathlib.Core.Bool.{false}
 use Prim.Native.Nat.{ℕ, _≤_, _<_, _-_}
 use native.Mathlib.Omega.{arith}
 use borrow.Author.Count.{below-more}
 use borrow.Author.Needs.{needs}
 use Rattle.query.specs.Conditions.{arcAt}
+use Rattle.query.proofs.Conditions.{arc-given, no-arc-given}
 use Rattle.query.proofs.other_arcs_given.Statement.{statement}
 use Rattle.query.proofs.other_arcs_given.Tie as tie
 
@@ -25,7 +26,7 @@ array-copy-out-arc : tie.Need-array-copy-out-arc Inv-loop μ-loop
 array-copy-out-arc c = search needs
 
 returns : tie.Need-returns Inv-loop μ-loop
-returns c = λ e. absurd (true≢false e)
+returns c = arc-given _ _ (c .before .before .before .loop .inv .0) (omega arith) (c .if1 .taken)
 
 add-body : tie.Need-add-body Inv-loop μ-loop
 add-body c = search needs
@@ -38,7 +39,7 @@ loop-again c =
     (omega arith, omega arith, below-more (λ (k : ℕ). 0 < k → arcAt (c .before .before .before .before .args .t1) k .given ≡ false) (c .before .before .before .loop .body) (c .before .before .before .loop .inv .2) (λ h. c .if1 .left))
 
 returns-2 : tie.Need-returns-2 Inv-loop μ-loop
-returns-2 c = λ e k h l. c .before .loop .inv .2 k (omega arith) h
+returns-2 c = no-arc-given _ (λ k h l. c .before .loop .inv .2 k (omega arith) h)
 
 pub other-arcs-given-spec : {M : Type 1} → statement M
 other-arcs-given-spec =

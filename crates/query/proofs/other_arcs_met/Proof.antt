@@ -18,7 +18,7 @@ in-arc-requires : tie.Need-in-arc-requires
 in-arc-requires c κs = search needs
 
 returns : tie.Need-returns
-returns c = arc-not-met _ _ 1 _ (lit< tt) (c .before .in-arc .ensures) (c .if1 .taken)
+returns c = arc-not-met _ _ 1 _ (lit< tt) (lit< tt) (c .before .in-arc .ensures) (c .if1 .taken)
 
 array-copy-out-in-arc-2 : tie.Need-array-copy-out-in-arc-2
 array-copy-out-in-arc-2 c = search needs
@@ -27,7 +27,7 @@ in-arc-requires-2 : tie.Need-in-arc-requires-2
 in-arc-requires-2 c κs = search needs
 
 returns-2 : tie.Need-returns-2
-returns-2 c = arc-not-met _ _ 2 _ (lit< tt) (c .before .in-arc2 .ensures) (c .if2 .taken)
+returns-2 c = arc-not-met _ _ 2 _ (lit< tt) (lit< tt) (c .before .in-arc2 .ensures) (c .if2 .taken)
 
 array-copy-out-in-arc-3 : tie.Need-array-copy-out-in-arc-3
 array-copy-out-in-arc-3 c = search needs
@@ -36,7 +36,7 @@ in-arc-requires-3 : tie.Need-in-arc-requires-3
 in-arc-requires-3 c κs = search needs
 
 returns-3 : tie.Need-returns-3
-returns-3 c = arc-not-met _ _ 3 _ (lit< tt) (c .before .in-arc3 .ensures) (c .if3 .taken)
+returns-3 c = arc-not-met _ _ 3 _ (lit< tt) (lit< tt) (c .before .in-arc3 .ensures) (c .if3 .taken)
 
 array-copy-out-in-arc-4 : tie.Need-array-copy-out-in-arc-4
 array-copy-out-in-arc-4 c = search needs
@@ -45,7 +45,7 @@ in-arc-requires-4 : tie.Need-in-arc-requires-4
 in-arc-requires-4 c κs = search needs
 
 returns-4 : tie.Need-returns-4
-returns-4 c = arc-not-met _ _ 4 _ (lit< tt) (c .before .in-arc4 .ensures) (c .if4 .taken)
+returns-4 c = arc-not-met _ _ 4 _ (lit< tt) (lit< tt) (c .before .in-arc4 .ensures) (c .if4 .taken)
 
 array-copy-out-in-arc-5 : tie.Need-array-copy-out-in-arc-5
 array-copy-out-in-arc-5 c = search needs
@@ -54,7 +54,7 @@ in-arc-requires-5 : tie.Need-in-arc-requires-5
 in-arc-requires-5 c κs = search needs
 
 returns-5 : tie.Need-returns-5
-returns-5 c = arc-not-met _ _ 5 _ (lit< tt) (c .before .in-arc5 .ensures) (c .if5 .taken)
+returns-5 c = arc-not-met _ _ 5 _ (lit< tt) (lit< tt) (c .before .in-arc5 .ensures) (c .if5 .taken)
 
 array-copy-out-in-arc-6 : tie.Need-array-copy-out-in-arc-6
 array-copy-out-in-arc-6 c = search needs
@@ -63,7 +63,7 @@ in-arc-requires-6 : tie.Need-in-arc-requires-6
 in-arc-requires-6 c κs = search needs
 
 returns-6 : tie.Need-returns-6
-returns-6 c = arc-not-met _ _ 6 _ (lit< tt) (c .before .in-arc6 .ensures) (c .if6 .taken)
+returns-6 c = arc-not-met _ _ 6 _ (lit< tt) (lit< tt) (c .before .in-arc6 .ensures) (c .if6 .taken)
 
 array-copy-out-in-arc-7 : tie.Need-array-copy-out-in-arc-7
 array-copy-out-in-arc-7 c = search needs
@@ -72,7 +72,7 @@ in-arc-requires-7 : tie.Need-in-arc-requires-7
 in-arc-requires-7 c κs = search needs
 
 returns-7 : tie.Need-returns-7
-returns-7 c = arc-not-met _ _ 7 _ (lit< tt) (c .before .in-arc7 .ensures) (c .if7 .taken)
+returns-7 c = arc-not-met _ _ 7 _ (lit< tt) (lit< tt) (c .before .in-arc7 .ensures) (c .if7 .taken)
 
 array-copy-out-in-arc-8 : tie.Need-array-copy-out-in-arc-8
 array-copy-out-in-arc-8 c = search needs

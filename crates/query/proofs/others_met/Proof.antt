@@ -1,21 +1,36 @@
--- `others_met` meets its contract: an arc that is not met decides, else the elements.
+-- `others_met` meets its contract: a pair out of range decides, then an arc that is not met, else the elements.
 use borrow.Author.Needs.{needs}
 use borrow.Author.Tests.{not-true, not-false}
-use Rattle.query.proofs.Conditions.{arcs-not-met, elements-decide}
+use mathlib.Core.Bool.{true}
+use mathlib.Core.Path.{_≡_, sym, _∙_}
+use Rattle.days.specs.Days.{inRange}
+use Rattle.query.specs.Conditions.{othersMet}
 use Rattle.query.proofs.others_met.Statement.{statement}
 use Rattle.query.proofs.others_met.Tie as tie
 
-other-arcs-met-requires : tie.Need-other-arcs-met-requires
-other-arcs-met-requires c κs = search needs
+in-range-requires : tie.Need-in-range-requires
+in-range-requires c κs = search needs
 
 returns : tie.Need-returns
-returns c = arcs-not-met (c .before .before .before .args .query) _ _ (c .before .other-arcs-met .ensures) (not-true _ (c .if1 .taken))
+unfolding othersMet
+returns c = rw (sym (c .before .in-range .ensures) ∙ not-true _ (c .if1 .taken))
 
-elements-met-requires : tie.Need-elements-met-requires
-elements-met-requires c κs = search needs
+day : (c : tie.Else1) → inRange (c .before .before .args .day) ≡ true
+day c = sym (c .before .in-range .ensures) ∙ not-false _ (c .if1 .left)
+
+other-arcs-met-requires : tie.Need-other-arcs-met-requires
+other-arcs-met-requires c κs = day (c .before)
 
 returns-2 : tie.Need-returns-2
-returns-2 c = elements-decide (c .before .before .before .before .args .query) _ _ (c .before .before .other-arcs-met .ensures) _ (not-false _ (c .before .if1 .left)) (c .elements-met .ensures)
+unfolding othersMet
+returns-2 c = rw (day (c .before .before .before), sym (c .before .other-arcs-met .ensures) ∙ not-true _ (c .if2 .taken))
+
+elements-met-requires : tie.Need-elements-met-requires
+elements-met-requires c κs = day (c .before .before .before)
+
+returns-3 : tie.Need-returns-3
+unfolding othersMet
+returns-3 c = c .elements-met .ensures ∙ rw (day (c .before .before .before .before), sym (c .before .before .other-arcs-met .ensures) ∙ not-false _ (c .before .if2 .left))
 
 pub others-met-spec : {M : Type 1} → statement M
-others-met-spec = tie.close (tie.spec other-arcs-met-requires returns elements-met-requires returns-2)
+others-met-spec = tie.close (tie.spec in-range-requires returns other-arcs-met-requires returns-2 elements-met-requires returns-3)

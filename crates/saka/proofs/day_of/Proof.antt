@@ -32,17 +32,10 @@ returns c =
 year-in-range-requires : tie.Need-year-in-range-requires
 year-in-range-requires c κs = search needs
 
-refused-requires-2 : tie.Need-refused-requires-2
-refused-requires-2 c κs = search needs
-
 returns-2 : tie.Need-returns-2
 unfolding lunarDay
 returns-2 c =
-    rw (
-      fields-ok (c .before .before .before),
-      sym (c .before .before .year-in-range .ensures) ∙ not-true _ (c .before .if2 .taken),
-    )
-    (c .refused2 .ensures)
+    rw (fields-ok (c .before .before), sym (c .before .year-in-range .ensures) ∙ not-true _ (c .if2 .taken))
 
 reckoned-day-requires : tie.Need-reckoned-day-requires
 reckoned-day-requires c κs = (fields-ok (c .before .before), year-ok c)
@@ -64,7 +57,6 @@ day-of-spec =
     refused-requires
     returns
     year-in-range-requires
-    refused-requires-2
     returns-2
     reckoned-day-requires
     on-weekday-requires

@@ -1,68 +1,81 @@
--- `scan` meets its contract. The loop's invariant is `Scanning`: the days counted so far, the visits left, the last match, and the list. The measure is the days left.
+-- `scan` meets its contract. The loop's invariant is `Scanning`: the place reached, the days put, the last match and the place to resume at. The measure is the days left.
 use borrow.Author.Needs.{needs}
 use Prim.Native.Nat.{_+_, _-_, _≤_}
 use mathlib.Core.Path.{refl}
 use native.Mathlib.Omega.{arith}
 use Rattle.days.specs.Days.{lastDay}
-use Rattle.search.proofs.Passes.{Visit, visit, Scanning, scanning-start, scanning-length, scanning-visit, scanning-room, scanning-in, scanning-out, scanning-end}
+use Rattle.search.proofs.Passes.{Visit, in-span, visit, Scanning, scanning-start, scanning-visit, scanning-in, scanning-out, scanning-end}
 use Rattle.search.proofs.scan.Statement.{statement}
 use Rattle.search.proofs.scan.Tie as tie
 
 abbrev Inv-loop : tie.InvT-loop
-Inv-loop query writing list₀ last place₀ length₀ latest₀ list place length latest =
-    Scanning query writing list₀ list (place .day) length (place .examined) latest
+Inv-loop query count until output₀ room place₀ length₀ latest₀ resume₀ output place length latest resume =
+    Scanning query place₀ count output₀ output place length latest resume
 
 abbrev μ-loop : tie.MeasureT-loop
-μ-loop query writing list₀ last place₀ length₀ latest₀ list place length latest = last + 1 - place .day
+μ-loop query count until output₀ room place₀ length₀ latest₀ resume₀ output place length latest resume = until + 1 - place .day
 
 loop-holds : tie.Need-loop-holds Inv-loop μ-loop
-loop-holds c = scanning-start _ _ _ (c .before .pre .0) (c .before .pre .1)
+loop-holds c = scanning-start _ _ _ _ (c .before .pre .accepts) (c .before .pre .reached) (c .before .pre .fits)
+
+inside : (c : tie.Then1 Inv-loop μ-loop) → c .before .before .loop .place .day ≤ c .before .before .before .before .args .query .last
+inside c = omega (arith, c .if1 .taken, c .before .before .before .before .pre .ends)
+
+begun : (c : tie.Then1 Inv-loop μ-loop) → c .before .before .before .before .args .query .first ≤ c .before .before .loop .place .day
+begun c = omega (arith, c .before .before .loop .inv .reached .gone)
 
 visit-requires : tie.Need-visit-requires Inv-loop μ-loop
-visit-requires c κs = scanning-visit _ _ _ (c .before .before .before .before .pre .0) (c .before .before .before .before .pre .1) _ _ _ _ _ (c .before .before .loop .inv) (c .if1 .taken)
+visit-requires c κs =
+    let e = c .before .before .before .before .pre .accepts in
+    (e, (in-span (c .before .before .before .before .args .query) _ (begun c) (inside c), scanning-visit _ _ _ _ e _ _ _ _ _ (c .before .before .loop .inv) (inside c)))
 
 seen : (c : tie.After-visit Inv-loop μ-loop) → Visit (c .before .before .before .before .before .args .query) (c .before .before .before .loop .place .day) (c .visit .result)
-seen c = visit _ _ _ (c .before .before .before .before .before .pre .0) (c .before .if1 .taken) (c .visit .ensures)
+seen c = visit _ _ _ (c .before .before .before .before .before .pre .accepts) (begun (c .before)) (inside (c .before)) (c .visit .ensures)
 
-onward-requires : tie.Need-onward-requires Inv-loop μ-loop
-onward-requires c κs = omega (arith, seen c, c .before .before .before .loop .inv .counting)
-
-cast-put-if : tie.Need-cast-put-if Inv-loop μ-loop
-cast-put-if c = search needs
+next-place-requires : tie.Need-next-place-requires Inv-loop μ-loop
+next-place-requires c κs = omega (arith, seen c, c .before .before .before .loop .inv .reached)
 
 few : (c : tie.After-visit Inv-loop μ-loop) → c .before .before .before .loop .length ≤ lastDay
-few c = omega (arith, seen c, c .before .before .before .loop .inv .counting)
+few c = omega (arith, seen c, c .before .before .before .loop .inv .reached)
 
-mul-put-if : tie.Need-mul-put-if Inv-loop μ-loop
-mul-put-if c = omega (arith, few (c .before .before .before))
+cast-index : tie.Need-cast-index Inv-loop μ-loop
+cast-index c = search needs
 
-put-if-requires : tie.Need-put-if-requires Inv-loop μ-loop
-put-if-requires c κs = scanning-room _ _ _ (c .before .before .before .before .before .before .before .before .pre .0) (c .before .before .before .before .before .before .before .before .pre .1) _ _ _ _ _ (c .before .before .before .before .before .before .loop .inv) (c .before .before .before .before .if1 .taken) _ (seen (c .before .before .before)) (c .before .if2 .taken)
+put-entry-requires : tie.Need-put-entry-requires Inv-loop μ-loop
+put-entry-requires c κs = search needs
 
 add-length : tie.Need-add-length Inv-loop μ-loop
 add-length c = omega (arith, few (c .before .before .before .before .before .before))
 
 loop-less : tie.Need-loop-less Inv-loop μ-loop
-loop-less c = rw (c .before .before .before .before .before .onward .ensures) (omega (arith, seen (c .before .before .before .before .before .before)))
+loop-less c = rw (c .before .before .before .before .before .before .next-place .ensures) (omega (arith, seen (c .before .before .before .before .before .before .before), c .before .before .before .before .before .before .before .before .if1 .taken))
 
 loop-again : tie.Need-loop-again Inv-loop μ-loop
 loop-again c =
-    rw (c .before .before .before .before .before .onward .ensures)
-    (scanning-in _ _ _ (c .before .before .before .before .before .before .before .before .before .before .before .pre .0) (c .before .before .before .before .before .before .before .before .before .before .before .pre .1) _ _ _ _ _ (c .before .before .before .before .before .before .before .before .before .loop .inv) (c .before .before .before .before .before .before .before .if1 .taken) _ (seen (c .before .before .before .before .before .before)) _ (c .before .before .before .before .if2 .taken) (c .before .before .put-if .ensures))
+    rw (c .before .before .before .before .before .before .next-place .ensures)
+    (scanning-in _ _ _ _ (c .before .before .before .before .before .before .before .before .before .before .before .before .pre .accepts) _ _ _ _ _ (c .before .before .before .before .before .before .before .before .before .before .loop .inv) (inside (c .before .before .before .before .before .before .before .before)) _ (seen (c .before .before .before .before .before .before .before)) _ _ (c .before .before .before .before .before .if2 .taken) (c .before .before .before .put-entry .ensures) (λ l. refl) (λ l. absurd (omega (arith, c .if3 .taken))))
 
 loop-less-2 : tie.Need-loop-less-2 Inv-loop μ-loop
-loop-less-2 c = rw (c .before .onward .ensures) (omega (arith, seen (c .before .before)))
+loop-less-2 c = rw (c .before .before .before .before .before .before .next-place .ensures) (omega (arith, seen (c .before .before .before .before .before .before .before), c .before .before .before .before .before .before .before .before .if1 .taken))
 
 loop-again-2 : tie.Need-loop-again-2 Inv-loop μ-loop
 loop-again-2 c =
-    rw (c .before .onward .ensures)
-    (scanning-out _ _ _ (c .before .before .before .before .before .before .before .pre .0) (c .before .before .before .before .before .before .before .pre .1) _ _ _ _ _ (c .before .before .before .before .before .loop .inv) (c .before .before .before .if1 .taken) _ (seen (c .before .before)) (c .if2 .left))
+    rw (c .before .before .before .before .before .before .next-place .ensures)
+    (scanning-in _ _ _ _ (c .before .before .before .before .before .before .before .before .before .before .before .before .pre .accepts) _ _ _ _ _ (c .before .before .before .before .before .before .before .before .before .before .loop .inv) (inside (c .before .before .before .before .before .before .before .before)) _ (seen (c .before .before .before .before .before .before .before)) _ _ (c .before .before .before .before .before .if2 .taken) (c .before .before .before .put-entry .ensures) (λ l. absurd (omega (arith, c .if3 .left))) (λ l. refl))
+
+loop-less-3 : tie.Need-loop-less-3 Inv-loop μ-loop
+loop-less-3 c = rw (c .before .next-place .ensures) (omega (arith, seen (c .before .before), c .before .before .before .if1 .taken))
+
+loop-again-3 : tie.Need-loop-again-3 Inv-loop μ-loop
+loop-again-3 c =
+    rw (c .before .next-place .ensures)
+    (scanning-out _ _ _ _ (c .before .before .before .before .before .before .before .pre .accepts) _ _ _ _ _ (c .before .before .before .before .before .loop .inv) (inside (c .before .before .before)) _ (seen (c .before .before)) (c .if2 .left))
 
 same-length : tie.Need-same-length Inv-loop μ-loop
-same-length c = scanning-length _ _ _ (c .before .before .before .before .pre .0) (c .before .before .before .before .pre .1) _ _ _ _ _ (c .before .before .loop .inv)
+same-length c = c .before .before .loop .inv .size
 
 returns : tie.Need-returns Inv-loop μ-loop
-returns c = scanning-end _ _ _ (c .before .before .before .before .pre .0) (c .before .before .before .before .pre .1) _ _ _ _ _ (c .before .before .loop .inv) _ (c .if1 .left) refl
+returns c = scanning-end _ _ _ _ (c .before .before .before .before .pre .accepts) _ _ _ _ _ (c .before .before .loop .inv) _ (c .before .before .before .before .pre .ends) (c .before .before .before .before .pre .none-later) (c .if1 .left)
 
 pub scan-spec : {M : Type 1} → statement M
 scan-spec =
@@ -72,14 +85,15 @@ scan-spec =
     μ-loop
     loop-holds
     visit-requires
-    onward-requires
-    cast-put-if
-    mul-put-if
-    put-if-requires
+    next-place-requires
+    cast-index
+    put-entry-requires
     add-length
     loop-less
     loop-again
     loop-less-2
     loop-again-2
+    loop-less-3
+    loop-again-3
     same-length
     returns)

@@ -1,4 +1,4 @@
--- `sheet::sheet` meets its contract: each answer tells which sheet is meant. Assumes nothing.
+-- `sheet::sheet` meets its contract: each answer decides which sheet is meant. Assumes nothing.
 use mathlib.Core.Path.{_≡_, _∙_}
 use denote.Ref.{now}
 use borrow.Author.Needs.{needs}

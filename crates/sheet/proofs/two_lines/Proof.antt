@@ -3,10 +3,11 @@
 use mathlib.Core.Path.{ap, _∙_}
 use mathlib.Core.List.{append-assoc}
 use borrow.Author.Needs.{needs}
-use Rattle.text.specs.Lines.{withBytes}
+use Rattle.text.specs.Lines.{withBytes, spaced}
 use Rattle.text.proofs.Lines.{with-byte-is, with-bytes-append}
-use Rattle.sheet.specs.Sheets.{heading, spaced, twoLines}
-use Rattle.sheet.proofs.Fitting.{holds, two-lines-fit}
+use Rattle.text.proofs.Holding.{holds}
+use Rattle.sheet.specs.Sheets.{sheetHeading, twoLines}
+use Rattle.sheet.proofs.Fitting.{two-lines-fit}
 use Rattle.sheet.proofs.Columns.{columns-found}
 use Rattle.sheet.proofs.two_lines.Statement.{statement}
 use Rattle.sheet.proofs.two_lines.Tie as tie
@@ -29,22 +30,22 @@ text-requires c κs = search needs
 number-requires : tie.Need-number-requires
 number-requires c κs = search needs
 
-slice-aggregate-put-numbers : tie.Need-slice-aggregate-put-numbers
-slice-aggregate-put-numbers c = search needs
+slice-aggregate-numbers : tie.Need-slice-aggregate-numbers
+slice-aggregate-numbers c = search needs
 
-put-numbers-requires : tie.Need-put-numbers-requires
-put-numbers-requires c κs = search needs
+numbers-requires : tie.Need-numbers-requires
+numbers-requires c κs = search needs
 
 byte-requires : tie.Need-byte-requires
 byte-requires c κs = search needs
 
 returns : tie.Need-returns
-unfolding twoLines heading
+unfolding twoLines sheetHeading
 returns c =
     let empty = c .before .before .before .before .before .before in
     let pre = empty .before .before .before .pre in
     let columns = columns-found _ _ _ _ (pre .0) (pre .1) (empty .before .before .weekday .ensures) (empty .before .of-day .ensures) in
-    let numbers = c .before .put-numbers .ensures ∙ ap (λ ns. withBytes (c .before .before .before .number .result) (spaced ns)) columns in
+    let numbers = c .before .numbers .ensures ∙ ap (λ ns. withBytes (c .before .before .before .number .result) (spaced ns)) columns in
     holds _ _ (two-lines-fit _ (pre .0))
     (rw (c .byte .ensures, numbers, c .before .before .before .number .ensures, c .before .before .before .before .text .ensures, empty .empty .ensures)
     (simp (with-byte-is, with-bytes-append, append-assoc)))
@@ -59,7 +60,7 @@ two-lines-spec =
     slice-aggregate-text
     text-requires
     number-requires
-    slice-aggregate-put-numbers
-    put-numbers-requires
+    slice-aggregate-numbers
+    numbers-requires
     byte-requires
     returns)

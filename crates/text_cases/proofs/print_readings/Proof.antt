@@ -1,4 +1,4 @@
--- `text_cases::print_readings` is safe and ends: each line starts behind the one before it. Assumes nothing.
+-- `text_cases::print_readings` is safe and ends: each line starts after the one before it. Assumes nothing.
 use Prim.Native.Nat.{_-_}
 use borrow.Author.Needs.{needs}
 use lib.ListN.{length}

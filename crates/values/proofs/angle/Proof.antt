@@ -1,6 +1,6 @@
 -- `angle` meets its contract: a plain number, and three numbers. Assumes nothing.
 use mathlib.Core.Path.{ap, _∙_}
-use Rattle.values.specs.Values.{sexagesimal, angleRead}
+use Rattle.values.specs.Values.{sexagesimalRead, angleRead}
 use Rattle.values.proofs.Readings.{is-number, no-number}
 use borrow.Author.Needs.{needs}
 use Rattle.values.proofs.angle.Statement.{statement}
@@ -21,7 +21,7 @@ sexagesimal-requires c κs = search needs
 
 returns-2 : tie.Need-returns-2
 unfolding angleRead
-returns-2 c = c .sexagesimal .ensures ∙ ap sexagesimal (c .before .three-of .ensures) ∙ no-number _ _ _ (c .before .before .before .before .read-decimal .ensures) (c .before .before .if1 .left)
+returns-2 c = c .sexagesimal .ensures ∙ ap sexagesimalRead (c .before .three-of .ensures) ∙ no-number _ _ _ (c .before .before .before .before .read-decimal .ensures) (c .before .before .if1 .left)
 
 pub angle-spec : {M : Type 1} → statement M
 angle-spec =

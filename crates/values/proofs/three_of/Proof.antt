@@ -7,8 +7,8 @@ use borrow.Author.Needs.{needs}
 use Rattle.values.proofs.three_of.Statement.{statement}
 use Rattle.values.proofs.three_of.Tie as tie
 
-behind-requires : tie.Need-behind-requires
-behind-requires c κs = search needs
+after-requires : tie.Need-after-requires
+after-requires c κs = search needs
 
 up-to-requires : tie.Need-up-to-requires
 up-to-requires c κs = search needs
@@ -22,8 +22,8 @@ up-to-requires-2 c κs = search needs
 read-decimal-requires-2 : tie.Need-read-decimal-requires-2
 read-decimal-requires-2 c κs = search needs
 
-behind-requires-2 : tie.Need-behind-requires-2
-behind-requires-2 c κs = search needs
+after-requires-2 : tie.Need-after-requires-2
+after-requires-2 c κs = search needs
 
 read-decimal-requires-3 : tie.Need-read-decimal-requires-3
 read-decimal-requires-3 c κs = search needs
@@ -32,12 +32,12 @@ read-decimal-requires-3 c κs = search needs
 three : (c : tie.After-read-decimal3) → threeNumbers (c .before .before .before .before .read-decimal .result) (c .before .before .read-decimal2 .result) (c .read-decimal3 .result) ≡ threeRead (c .before .before .before .before .before .before .before .before .args .separator) (c .before .before .before .before .before .before .before .before .args .word .now)
 three c =
     three-are _ _ _ _ _ _ _ _ _
-    (c .before .before .before .before .before .before .behind .ensures)
+    (c .before .before .before .before .before .before .after .ensures)
     (c .before .before .before .before .before .up-to .ensures)
     (c .before .before .before .before .read-decimal .ensures)
     (c .before .before .before .up-to2 .ensures)
     (c .before .before .read-decimal2 .ensures)
-    (c .before .behind2 .ensures)
+    (c .before .after2 .ensures)
     (c .read-decimal3 .ensures)
 
 returns : tie.Need-returns
@@ -56,12 +56,12 @@ pub three-of-spec : {M : Type 1} → statement M
 three-of-spec =
     tie.close
     (tie.spec
-    behind-requires
+    after-requires
     up-to-requires
     read-decimal-requires
     up-to-requires-2
     read-decimal-requires-2
-    behind-requires-2
+    after-requires-2
     read-decimal-requires-3
     returns
     returns-2

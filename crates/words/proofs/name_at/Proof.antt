@@ -15,8 +15,8 @@ abbrev μ-loop : tie.MeasureT-loop
 loop-holds : tie.Need-loop-holds Inv-loop μ-loop
 loop-holds c = refl
 
-behind-requires : tie.Need-behind-requires Inv-loop μ-loop
-behind-requires c κs = search needs
+after-requires : tie.Need-after-requires Inv-loop μ-loop
+after-requires c κs = search needs
 
 sub-left : tie.Need-sub-left Inv-loop μ-loop
 sub-left c = omega arith
@@ -25,7 +25,7 @@ loop-less : tie.Need-loop-less Inv-loop μ-loop
 loop-less c = omega arith
 
 loop-again : tie.Need-loop-again Inv-loop μ-loop
-loop-again c = rw (c .behind .ensures) (naming-next _ _ _ _ (c .before .before .loop .inv) (c .before .loop-test .taken))
+loop-again c = rw (c .after .ensures) (naming-next _ _ _ _ (c .before .before .loop .inv) (c .before .loop-test .taken))
 
 up-to-requires : tie.Need-up-to-requires Inv-loop μ-loop
 up-to-requires c κs = search needs
@@ -40,7 +40,7 @@ name-at-spec =
     Inv-loop
     μ-loop
     loop-holds
-    behind-requires
+    after-requires
     sub-left
     loop-less
     loop-again

@@ -3,7 +3,7 @@ use mathlib.Core.Path.{sym, _∙_}
 use borrow.Author.Needs.{needs}
 use native.Mathlib.Omega.{arith}
 use lib.ListN.{length}
-use Rattle.words.proofs.Pieces.{behind-shorter}
+use Rattle.words.proofs.Pieces.{after-shorter}
 use Rattle.words.proofs.Places.{Placing, placing-start, first-same, placing-found, placing-end, placing-next}
 use Rattle.words.proofs.place_in.Statement.{statement}
 use Rattle.words.proofs.place_in.Tie as tie
@@ -29,20 +29,20 @@ returns c = placing-found _ _ _ _ (c .before .before .before .loop .inv) (sym (f
 add-place : tie.Need-add-place Inv-loop μ-loop
 add-place c = omega (arith, (c .before .before .before .loop .inv) .room)
 
-run-requires : tie.Need-run-requires Inv-loop μ-loop
-run-requires c κs = search needs
+run-length-requires : tie.Need-run-length-requires Inv-loop μ-loop
+run-length-requires c κs = search needs
 
 returns-2 : tie.Need-returns-2 Inv-loop μ-loop
-returns-2 c = placing-end _ _ _ _ (c .before .before .before .before .before .loop .inv) (sym (first-same _ _ _ _ (c .before .before .before .before .up-to .ensures) (c .before .before .before .same .ensures)) ∙ c .before .before .if1 .left) (sym (c .before .run .ensures) ∙ c .if2 .taken)
+returns-2 c = placing-end _ _ _ _ (c .before .before .before .before .before .loop .inv) (sym (first-same _ _ _ _ (c .before .before .before .before .up-to .ensures) (c .before .before .before .same .ensures)) ∙ c .before .before .if1 .left) (sym (c .before .run-length .ensures) ∙ c .if2 .taken)
 
-behind-requires : tie.Need-behind-requires Inv-loop μ-loop
-behind-requires c κs = search needs
+after-requires : tie.Need-after-requires Inv-loop μ-loop
+after-requires c κs = search needs
 
 loop-less : tie.Need-loop-less Inv-loop μ-loop
-loop-less c = rw (c .behind .ensures) (behind-shorter _ _ (λ end. c .before .if2 .left (c .before .before .run .ensures ∙ end)))
+loop-less c = rw (c .after .ensures) (after-shorter _ _ (λ end. c .before .if2 .left (c .before .before .run-length .ensures ∙ end)))
 
 loop-again : tie.Need-loop-again Inv-loop μ-loop
-loop-again c = rw (c .behind .ensures) (placing-next _ _ _ _ (c .before .before .before .before .before .before .loop .inv) (sym (first-same _ _ _ _ (c .before .before .before .before .before .up-to .ensures) (c .before .before .before .before .same .ensures)) ∙ c .before .before .before .if1 .left) (λ end. c .before .if2 .left (c .before .before .run .ensures ∙ end)))
+loop-again c = rw (c .after .ensures) (placing-next _ _ _ _ (c .before .before .before .before .before .before .loop .inv) (sym (first-same _ _ _ _ (c .before .before .before .before .before .up-to .ensures) (c .before .before .before .before .same .ensures)) ∙ c .before .before .before .if1 .left) (λ end. c .before .if2 .left (c .before .before .run-length .ensures ∙ end)))
 
 pub place-in-spec : {M : Type 1} → statement M
 place-in-spec =
@@ -55,8 +55,8 @@ place-in-spec =
     same-requires
     returns
     add-place
-    run-requires
+    run-length-requires
     returns-2
-    behind-requires
+    after-requires
     loop-less
     loop-again)

@@ -1,23 +1,23 @@
 -- `separates` meets its contract: each answer by the tests before it. Assumes nothing.
 use borrow.Author.Tests.{eq-eqb, ne-eqb}
-use Rattle.words.specs.Words.{separates}
+use Rattle.words.specs.Words.{isSeparator}
 use Rattle.words.proofs.separates.Statement.{statement}
 use Rattle.words.proofs.separates.Tie as tie
 
 returns : tie.Need-returns
-unfolding separates
+unfolding isSeparator
 returns c = rw (eq-eqb _ _ (c .if1 .taken))
 
 returns-2 : tie.Need-returns-2
-unfolding separates
+unfolding isSeparator
 returns-2 c = rw (ne-eqb _ _ (c .before .if1 .left), ne-eqb _ _ (c .if2 .taken))
 
 returns-3 : tie.Need-returns-3
-unfolding separates
+unfolding isSeparator
 returns-3 c = rw (ne-eqb _ _ (c .before .before .if1 .left), eq-eqb _ _ (c .before .if2 .left), eq-eqb _ _ (c .if3 .taken))
 
 returns-4 : tie.Need-returns-4
-unfolding separates
+unfolding isSeparator
 returns-4 c = rw (ne-eqb _ _ (c .before .before .if1 .left), eq-eqb _ _ (c .before .if2 .left), ne-eqb _ _ (c .if3 .left))
 
 pub separates-spec : {M : Type 1} → statement M

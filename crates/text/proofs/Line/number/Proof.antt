@@ -3,7 +3,7 @@ use mathlib.Core.Path.{ap, _∙_}
 use native.Mathlib.Omega.{arith}
 use borrow.Author.Needs.{needs}
 use Rattle.text.specs.Lines.{withBytes}
-use Rattle.text.proofs.Backwards.{lent-whole}
+use Rattle.text.proofs.Lending.{lent-rest}
 use Rattle.text.proofs.Line.number.Statement.{statement}
 use Rattle.text.proofs.Line.number.Tie as tie
 
@@ -26,7 +26,7 @@ returns : tie.Need-returns
 returns c =
     let written = c .before .before .before .before .decimal in
     c .text .ensures
-    ∙ ap (withBytes _) (lent-whole (written .result .bytes) (written .result .from) (written .ensures .0) ∙ written .ensures .2)
+    ∙ ap (withBytes _) ((rw (written .ensures .0) at (lent-rest (written .result .bytes) (written .result .from))) ∙ written .ensures .2)
 
 pub number-spec : {M : Type 1} → statement M
 number-spec =

@@ -1,17 +1,17 @@
--- `text::Line::text` meets its contract: the bytes left, put on the line so far, give the line meant. Assumes nothing.
+-- `text::Line::text` meets its contract: the bytes left, put on the line so far, make the line meant. Assumes nothing.
 use Prim.Native.Nat.{_-_}
 use mathlib.Core.Path.{refl}
 use mathlib.Core.Logic.{⊎-elim}
 use native.Mathlib.Omega.{arith}
 use borrow.Author.Needs.{needs}
 use lib.ListN.{length}
-use Rattle.text.proofs.Putting.{Putting, putting-fits, putting-full, putting-end}
+use Rattle.text.proofs.Putting.{Putting, itself, putting-fits, putting-full, putting-end}
 use Rattle.text.proofs.Line.text.Statement.{statement}
 use Rattle.text.proofs.Line.text.Tie as tie
 
 abbrev Inv-loop : tie.InvT-loop
 Inv-loop s bytes₀ len₀ i₀ bytes len i =
-    Putting (record { bytes = bytes₀; len = len₀ }) s (record { bytes = bytes; len = len }) i
+    Putting itself (record { bytes = bytes₀; len = len₀ }) s (record { bytes = bytes; len = len }) i
 
 abbrev μ-loop : tie.MeasureT-loop
 μ-loop s bytes₀ len₀ i₀ bytes len i = length s - i

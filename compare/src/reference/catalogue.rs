@@ -1,0 +1,134 @@
+//! What the program `find` prints of the days found: their number and that of the days looked at,
+//! a heading, and a line for each day; and the calls that put this into a lent buffer, a piece at a
+//! time.
+
+use super::almanac::Almanac;
+use super::civil::Date;
+use super::refusal::{Answer, LIST_TOO_SHORT};
+use super::search::Found;
+
+pub const WEEKDAYS: [&str; 7] = [
+    "monday",
+    "tuesday",
+    "wednesday",
+    "thursday",
+    "friday",
+    "saturday",
+    "sunday",
+];
+
+const HEADING: &str = "day date weekday tithi nakshatra yoga karana";
+
+/// The two lines before the days'.
+pub fn heading(length: u32, looked: u32) -> String {
+    format!("found {length} looked {looked}\n{HEADING}\n")
+}
+
+/// The line of a day; 2 for a number that is no day.
+pub fn line(almanac: &Almanac, number: u32) -> Answer<String> {
+    let day = almanac.day(number)?;
+    let Date {
+        year,
+        month,
+        day: of_month,
+    } = day.date;
+    let weekday = WEEKDAYS[day.weekday as usize];
+    let limbs = [day.tithi, day.nakshatra, day.yoga, day.karana].map(|limb| limb.to_string());
+    Ok(format!(
+        "{number} {year}-{month}-{of_month} {weekday} {}\n",
+        limbs.join(" ")
+    ))
+}
+
+/// All that is printed for a search.
+pub fn text(almanac: &Almanac, found: &Found) -> String {
+    let mut text = heading(found.matching.len() as u32, found.visited.len() as u32);
+    for day in &found.matching {
+        text += &line(almanac, *day).expect("a day that is found is a day");
+    }
+    text
+}
+
+/// The lines of a list of bytes, "four a day, low byte first", where "a tail under four bytes is no
+/// place" (paper 01, "What the table reckons").
+pub fn lines(almanac: &Almanac, list: &[u8]) -> Vec<Answer<String>> {
+    list.chunks_exact(4)
+        .map(|entry| u32::from_le_bytes([entry[0], entry[1], entry[2], entry[3]]))
+        .map(|number| line(almanac, number))
+        .collect()
+}
+
+/// What a call that fills a buffer gives back, and what then stands at the buffer's front.
+#[derive(Clone, PartialEq, Eq, Debug)]
+pub struct Put {
+    pub result: u32,
+    /// How many bytes were put; with 7, how many would do.
+    pub bytes: u32,
+    /// The number of the entry that comes next; 0 with a refusal.
+    pub next: u32,
+    pub text: Vec<u8>,
+}
+
+impl Put {
+    fn accepted(text: String, next: u32) -> Put {
+        Put {
+            result: 0,
+            bytes: text.len() as u32,
+            next,
+            text: text.into_bytes(),
+        }
+    }
+
+    /// "Lent memory is untouched by each refusal" ("Refusals by number").
+    fn refused(result: u32, bytes: usize) -> Put {
+        Put {
+            result,
+            bytes: bytes as u32,
+            next: 0,
+            text: Vec::new(),
+        }
+    }
+
+    /// "7 outside the search gives the length that would do, in the lent list's own places, and 0."
+    fn no_room_for(line: &str) -> Put {
+        Put::refused(LIST_TOO_SHORT, line.len())
+    }
+
+    /// A buffer after the call: what is behind the text stays as it was.
+    pub fn buffer_after(&self, before: &[u8]) -> Vec<u8> {
+        let mut after = before.to_vec();
+        after[..self.text.len()].copy_from_slice(&self.text);
+        after
+    }
+}
+
+/// The lines of a list's entries from number `from` on, as many as fit whole into `room` bytes, and
+/// none at or behind an entry that is no day. Refused are a first entry that is no day and, with 7, a
+/// first line that doesn't fit; where no entry is left there is nothing to refuse.
+pub fn put_lines(lines: &[Answer<String>], from: u32, room: usize) -> Put {
+    let due = lines.get(from as usize..).unwrap_or_default();
+    match due.first() {
+        Some(Err(refusal)) => return Put::refused(*refusal, 0),
+        Some(Ok(line)) if line.len() > room => return Put::no_room_for(line),
+        _ => {}
+    }
+    let (mut text, mut next) = (String::new(), from);
+    for line in due.iter().map_while(|line| line.as_ref().ok()) {
+        if text.len() + line.len() > room {
+            break;
+        }
+        text += line;
+        next += 1;
+    }
+    Put::accepted(text, next)
+}
+
+/// The heading, whole or not at all. It has no entries: `next` is 0.
+pub fn put_heading(length: u32, looked: u32, room: usize) -> Put {
+    let text = heading(length, looked);
+    if text.len() > room {
+        Put::no_room_for(&text)
+    } else {
+        Put::accepted(text, 0)
+    }
+}

@@ -1,0 +1,273 @@
+//! The look, over the bridge: whether a day fits and which day the walk takes next, for days in the
+//! span and outside it; what it refuses, and in which order; and the walk made of looks.
+
+use std::collections::BTreeSet;
+
+use crate::calls::*;
+use crate::checks::Checks;
+use crate::random::Random;
+use crate::reference::almanac::Almanac;
+use crate::reference::days::LAST_DAY;
+use crate::reference::longitudes::SUN;
+use crate::reference::refusal::{result_number, Answer, BAD_INPUT};
+use crate::reference::search::{Arc, Look, Query};
+
+use super::queries::{
+    arc_ahead, at_range_ends, random_arc, random_query, random_span, spoil, Span, REFUSED_ARCS,
+    REFUSED_SPANS,
+};
+use super::query_bytes::{encode, other_lengths, shown};
+use super::WIDTH_EDGES;
+
+/// The three numbers of a look.
+struct Came {
+    result: u32,
+    matches: u32,
+    next: u32,
+}
+
+fn look(query: &[u8], day: u32) -> Came {
+    let (bytes, length) = (query.as_ptr(), query.len());
+    unsafe {
+        Came {
+            result: bridge_examine_result(bytes, length, day),
+            matches: bridge_examine_matches(bytes, length, day),
+            next: bridge_examine_next(bytes, length, day),
+        }
+    }
+}
+
+/// One look. Where it is accepted, the next day is later, so that no walk goes on for ever.
+fn compare_bytes(checks: &mut Checks, expected: &Answer<Look>, query: &[u8], day: u32) -> Came {
+    let input = || format!("day {day}, {}", shown(query));
+    let (matches, next) = match expected {
+        Ok(look) => (u32::from(look.matches), look.next),
+        Err(_) => (0, 0),
+    };
+    let came = look(query, day);
+    let result = result_number(expected);
+    checks.same("bridge_examine_result", input, result, came.result);
+    checks.same("bridge_examine_matches", input, matches, came.matches);
+    checks.same("bridge_examine_next", input, next, came.next);
+    if came.result == 0 {
+        checks.same("the next day is later", input, true, came.next > day);
+    }
+    came
+}
+
+fn compare(
+    checks: &mut Checks,
+    almanac: &Almanac,
+    random: &mut Random,
+    query: &Query,
+    days: impl IntoIterator<Item = u32>,
+) {
+    let bytes = encode(random, query);
+    for day in days {
+        compare_bytes(checks, &query.look(almanac, day), &bytes, day);
+    }
+}
+
+/// Days in a span, about its ends and outside it, days of the table's ends, and numbers that are no
+/// days.
+fn days_about(random: &mut Random, (first, last): Span) -> BTreeSet<u32> {
+    let mut days = BTreeSet::from([0, LAST_DAY, LAST_DAY + 1, u32::MAX]);
+    for end in [first, last] {
+        days.extend([end, end.wrapping_sub(1), end.wrapping_add(1)]);
+    }
+    if first <= last {
+        let inside = last.saturating_sub(first).saturating_add(1);
+        days.extend([(); 3].map(|()| first + random.below(inside)));
+    }
+    days.extend([
+        random.below(LAST_DAY + 1),
+        first.saturating_sub(random.below(400)),
+        last.saturating_add(random.below(400)),
+        random.one_of(&WIDTH_EDGES),
+        random.number(),
+    ]);
+    days
+}
+
+/// Every combination of conditions given and not given, and spans moved off a day that meets them
+/// all: it fits no more, and is followed as before.
+fn combinations(checks: &mut Checks, almanac: &Almanac, random: &mut Random) {
+    for given in 0..1 << 13 {
+        let mut query = random_query(random, almanac, given, 400);
+        let days = days_about(random, (query.first, query.last));
+        compare(checks, almanac, random, &query, days);
+        let found = query.search(almanac).expect("the query is well-formed");
+        let Some(day) = found.matching.first().copied() else {
+            continue;
+        };
+        let beside = random.below(400);
+        let spans = [
+            (day, day),
+            (0, day.saturating_sub(1)),
+            (day.saturating_sub(1 + beside), day.saturating_sub(1)),
+            (LAST_DAY.min(day + 1), LAST_DAY),
+            (LAST_DAY.min(day + 1), LAST_DAY.min(day + 1 + beside)),
+        ];
+        for (first, last) in spans {
+            (query.first, query.last) = (first, last);
+            let days = [day.saturating_sub(1), day, day + 1];
+            compare(checks, almanac, random, &query, days);
+        }
+    }
+}
+
+/// All days of the table, and some numbers behind it, by a few queries each.
+fn every_day(checks: &mut Checks, almanac: &Almanac, random: &mut Random) {
+    let mut queries = [
+        Query::of_host(0, LAST_DAY, Arc::new(1_295_000, 3600), 3),
+        Query::of_host(200_000, 200_729, Arc::new(640_000, 1), 0),
+        Query::without_conditions(4015, 401_000),
+        Query::without_conditions(LAST_DAY, LAST_DAY),
+    ];
+    queries[2].nakshatra = Some(7);
+    queries[2].arcs[3] = Some(Arc::new(1_200_000, 200_000));
+    queries[3].tithi = Some(almanac.days()[LAST_DAY as usize].tithi);
+    queries[3].arcs[SUN] = Some(Arc::new(0, 1_296_000));
+    for query in queries {
+        compare(checks, almanac, random, &query, 0..=LAST_DAY + 1000);
+        compare(checks, almanac, random, &query, WIDTH_EDGES);
+    }
+}
+
+/// Arcs that start at each multiple of 3549 seconds ahead of a day's mean Sun and a second beside
+/// it, where the rounding up tells; and so far ahead as can be.
+fn jumps(checks: &mut Checks, almanac: &Almanac, random: &mut Random) {
+    let days = [
+        0,
+        4015,
+        4016,
+        33_649,
+        LAST_DAY - 366,
+        LAST_DAY - 1,
+        LAST_DAY,
+    ];
+    let drawn = [(); 5].map(|()| random.below(LAST_DAY + 1));
+    for day in days.into_iter().chain(drawn) {
+        let place = almanac.days()[day as usize].mean[SUN];
+        let mut query = Query::without_conditions(random.below(day + 1), LAST_DAY);
+        let multiples = (1..=365).map(|times| 3549 * times);
+        for ahead in multiples.chain([1_295_999]) {
+            for beside in [0, 1, 1_295_999] {
+                let start = (place + ahead + beside) % 1_296_000;
+                query.arcs[SUN] = Some(Arc::new(start, 1));
+                compare(checks, almanac, random, &query, [day]);
+            }
+        }
+    }
+}
+
+/// Each end of each condition's range and the first value past it, with every kind of span and of
+/// day: of several faults 2 comes before 5, and 5 before 6.
+fn order(checks: &mut Checks, almanac: &Almanac, random: &mut Random) {
+    let sound = [
+        (0, 0),
+        (1000, 1400),
+        (LAST_DAY, LAST_DAY),
+        (0, LAST_DAY),
+        (5, LAST_DAY),
+    ];
+    for span in sound.into_iter().chain(REFUSED_SPANS) {
+        let mut queries = vec![Query::without_conditions(span.0, span.1)];
+        queries.extend(at_range_ends(span, 0));
+        queries.extend(at_range_ends(span, 1));
+        for arc in REFUSED_ARCS {
+            queries.extend([0, 6].map(|weekday| Query::of_host(span.0, span.1, arc, weekday)));
+        }
+        for query in queries {
+            let mut days = days_about(random, span);
+            days.extend([999, 1000, 1200, 1400, 1401, LAST_DAY + 2, 1 << 31]);
+            compare(checks, almanac, random, &query, days);
+        }
+    }
+}
+
+/// Any conditions, some of them ill-formed, often with the span.
+fn refused(checks: &mut Checks, almanac: &Almanac, random: &mut Random) {
+    for _ in 0..4000 {
+        let given = random.below(1 << 13);
+        let mut query = random_query(random, almanac, given, 400);
+        spoil(random, &mut query);
+        let days = days_about(random, (query.first, query.last));
+        compare(checks, almanac, random, &query, days);
+    }
+}
+
+/// Bytes that are no query: 3 and zeros, for any day.
+fn no_queries(checks: &mut Checks, random: &mut Random) {
+    for bytes in other_lengths(random) {
+        for day in [0, 5, 9, 10, LAST_DAY, LAST_DAY + 1, u32::MAX] {
+            compare_bytes(checks, &Err(BAD_INPUT), &bytes, day);
+        }
+    }
+}
+
+/// The walk made of looks, from the first day until past the last: its days, the fitting ones, and
+/// the numbers of both, which the search gives too.
+fn compare_walk(checks: &mut Checks, almanac: &Almanac, random: &mut Random, query: &Query) {
+    let bytes = encode(random, query);
+    let found = query.search(almanac).expect("the query is well-formed");
+    let (mut visited, mut matching) = (Vec::new(), Vec::new());
+    let mut day = query.first;
+    while day <= query.last {
+        let came = compare_bytes(checks, &query.look(almanac, day), &bytes, day);
+        visited.push(day);
+        if came.matches == 1 {
+            matching.push(day);
+        }
+        day = came.next;
+    }
+    let input = || shown(&bytes);
+    let [length, looked] = [bridge_length, bridge_looked]
+        .map(|call| unsafe { call(bytes.as_ptr(), bytes.len()) as usize });
+    checks.same("the fitting days' number", input, matching.len(), length);
+    checks.same("the walk's length", input, visited.len(), looked);
+    checks.same("the fitting days", input, found.matching, matching);
+    checks.same("the walk's days", input, found.visited, visited);
+}
+
+/// Walks of all kinds: short ones with any conditions, long ones with few, Sun arcs whose starts are
+/// a whole number of jumps ahead, and the whole table.
+fn walks(checks: &mut Checks, almanac: &Almanac, random: &mut Random) {
+    for round in 0..3000 {
+        let given = match round % 3 {
+            0 => random.below(1 << 13),
+            1 => random.below(1 << 13) | 1 << 4,
+            _ => 1 << random.below(13) | 1 << 4,
+        };
+        let most = if round % 100 == 0 { LAST_DAY + 1 } else { 1000 };
+        let query = random_query(random, almanac, given, most);
+        compare_walk(checks, almanac, random, &query);
+    }
+    for _ in 0..1000 {
+        let (first, last) = random_span(random, 2000);
+        let mut query = Query::without_conditions(first, last);
+        query.arcs[SUN] = Some(if random.once_in(3) {
+            random_arc(random)
+        } else {
+            arc_ahead(random, almanac, first)
+        });
+        compare_walk(checks, almanac, random, &query);
+    }
+    let mut query = Query::without_conditions(0, LAST_DAY);
+    compare_walk(checks, almanac, random, &query);
+    for (start, width) in [(0, 1), (0, 3600), (1_295_000, 108_000), (77, 1_296_000)] {
+        query.arcs[SUN] = Some(Arc::new(start, width));
+        compare_walk(checks, almanac, random, &query);
+    }
+}
+
+pub fn run(checks: &mut Checks, almanac: &Almanac) {
+    let mut random = Random::from_seed();
+    combinations(checks, almanac, &mut random);
+    every_day(checks, almanac, &mut random);
+    jumps(checks, almanac, &mut random);
+    order(checks, almanac, &mut random);
+    refused(checks, almanac, &mut random);
+    no_queries(checks, &mut random);
+    walks(checks, almanac, &mut random);
+}

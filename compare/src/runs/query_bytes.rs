@@ -1,0 +1,61 @@
+//! A query as the bridge takes it: 37 numbers of four bytes each, low byte first. They are first,
+//! last; then for weekday, tithi, nakshatra and yoga "given" (0 is no, any other number yes) and the
+//! value; then for each body "given", start and width.
+
+use crate::random::Random;
+use crate::reference::search::Query;
+
+/// Bytes of another length are refused with 3.
+pub const QUERY_LENGTH: usize = 148;
+
+/// "Given" and the numbers of a condition; where it isn't given the numbers are any.
+fn encode_condition<const N: usize>(
+    random: &mut Random,
+    numbers: &mut Vec<u32>,
+    condition: Option<[u32; N]>,
+) {
+    match condition {
+        None => {
+            numbers.push(0);
+            numbers.extend([(); N].map(|()| random.number()));
+        }
+        Some(values) => {
+            numbers.push(random.one_of(&[1, 1, 2, 256, 65_536, 1 << 31, u32::MAX]));
+            numbers.extend(values);
+        }
+    }
+}
+
+pub fn encode(random: &mut Random, query: &Query) -> Vec<u8> {
+    let mut numbers = vec![query.first, query.last];
+    for value in [query.weekday, query.tithi, query.nakshatra, query.yoga] {
+        encode_condition(random, &mut numbers, value.map(|value| [value]));
+    }
+    for arc in query.arcs {
+        encode_condition(random, &mut numbers, arc.map(|arc| [arc.start, arc.width]));
+    }
+    numbers.into_iter().flat_map(u32::to_le_bytes).collect()
+}
+
+/// Bytes of each other length up to twice the right one.
+pub fn other_lengths(random: &mut Random) -> Vec<Vec<u8>> {
+    let bytes = encode(random, &Query::without_conditions(0, 9)).repeat(2);
+    (0..=bytes.len())
+        .filter(|length| *length != QUERY_LENGTH)
+        .map(|length| bytes[..length].to_vec())
+        .collect()
+}
+
+/// The numbers of four bytes each, low byte first; a tail under four bytes is left out.
+pub fn numbers(bytes: &[u8]) -> Vec<u32> {
+    bytes
+        .chunks_exact(4)
+        .map(|word| u32::from_le_bytes([word[0], word[1], word[2], word[3]]))
+        .collect()
+}
+
+/// A query's bytes for a message.
+pub fn shown(bytes: &[u8]) -> String {
+    let numbers = numbers(bytes);
+    format!("a query of {} bytes: {numbers:?}", bytes.len())
+}

@@ -1,0 +1,18 @@
+-- What only contracts of private functions speak of: the numbers of one answer together.
+-- Assumes nothing.
+use mathlib.Core.Bool.{cond}
+use mathlib.Core.List.{List}
+use mathlib.Core.Path.{_≡_}
+use Prim.Native.Nat.{ℕ}
+use Rattle.search.specs.declared.Found.{Found}
+use Rattle.bridge.specs.declared.looks.Look.{Look}
+use Rattle.bridge.specs.Answers.{bridgeLength, bridgeLooked, bridgeExamined}
+
+pub record BridgeMeasured (bytes : List ℕ) (found : Found) : Type 0 where
+  pub count : found .length ≡ bridgeLength bytes
+  pub visits : found .examined ≡ bridgeLooked bytes
+
+pub record BridgeLook (bytes : List ℕ) (day : ℕ) (look : Look) : Type 0 where
+  pub result : look .result ≡ bridgeExamined bytes day .refusal
+  pub match : look .matches ≡ cond (bridgeExamined bytes day .matches) 1 0
+  pub next : look .next ≡ bridgeExamined bytes day .next

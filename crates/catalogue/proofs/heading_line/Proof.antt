@@ -1,0 +1,59 @@
+-- `heading_line` meets its contract: what is put one after another is put at once, and it fits. Assumes nothing.
+use mathlib.Core.List.{append-assoc}
+use native.Mathlib.Omega.{arith}
+use Rattle.text.proofs.Lines.{with-bytes-append}
+use Rattle.text.proofs.Holding.{holds}
+use Rattle.catalogue.specs.Catalogue.{catalogueHeading}
+use Rattle.catalogue.proofs.DayLines.{heading-fits}
+use borrow.Author.Needs.{needs}
+use Rattle.catalogue.proofs.heading_line.Statement.{statement}
+use Rattle.catalogue.proofs.heading_line.Tie as tie
+
+empty-requires : tie.Need-empty-requires
+empty-requires c κs = search needs
+
+slice-aggregate-text : tie.Need-slice-aggregate-text
+slice-aggregate-text c = search needs
+
+text-requires : tie.Need-text-requires
+text-requires c κs = search needs
+
+number-requires : tie.Need-number-requires
+number-requires c κs = search needs
+
+slice-aggregate-text-2 : tie.Need-slice-aggregate-text-2
+slice-aggregate-text-2 c = search needs
+
+text-requires-2 : tie.Need-text-requires-2
+text-requires-2 c κs = search needs
+
+number-requires-2 : tie.Need-number-requires-2
+number-requires-2 c κs = search needs
+
+slice-aggregate-text-3 : tie.Need-slice-aggregate-text-3
+slice-aggregate-text-3 c = search needs
+
+text-requires-3 : tie.Need-text-requires-3
+text-requires-3 c κs = search needs
+
+returns : tie.Need-returns
+unfolding catalogueHeading
+returns c =
+    holds _ _ (heading-fits _ _ (omega arith) (omega arith))
+    (rw (c .text3 .ensures, c .before .before .number2 .ensures, c .before .before .before .text2 .ensures, c .before .before .before .before .before .number .ensures, c .before .before .before .before .before .before .text .ensures, c .before .before .before .before .before .before .before .before .empty .ensures)
+    (simp (with-bytes-append, append-assoc)))
+
+pub heading-line-spec : {M : Type 1} → statement M
+heading-line-spec =
+    tie.close
+    (tie.spec
+    empty-requires
+    slice-aggregate-text
+    text-requires
+    number-requires
+    slice-aggregate-text-2
+    text-requires-2
+    number-requires-2
+    slice-aggregate-text-3
+    text-requires-3
+    returns)

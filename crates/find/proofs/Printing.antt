@@ -1,0 +1,73 @@
+-- The loop of `print_days`: the output from the bytes written on begins with the lines that are still due, and a piece is the front of these, by
+-- the law of the pieces. Assumes nothing.
+use mathlib.Core.Path.{_≡_, refl, ap, sym, _∙_}
+use mathlib.Core.List.{List, _++_, append-assoc}
+use Prim.Native.Nat.{ℕ, _+_, _-_, _≤_, _<_}
+use native.Mathlib.Omega.{arith}
+use lib.ListN.{length, take, drop, length-append, length-drop}
+use Rattle.query.specs.declared.Query.{Query}
+use Rattle.query.specs.Query.{refusalOf}
+use Rattle.catalogue.specs.declared.Piece.{Piece}
+use Rattle.catalogue.specs.Pieces.{listedFrom, dayLines, linesPiece, linesAfter}
+use Rattle.catalogue.specs.Each.{EachFits}
+use Rattle.catalogue.proofs.Together.{Going, going}
+use Rattle.find.specs.Output.{outputOf, NextBytes}
+use Rattle.find.proofs.Bounds.{output-short}
+use Rattle.find.proofs.Next.{next-of, due-of, left-of}
+
+module _ (q : Query) (days : List ℕ) (before : ℕ) where
+  abbrev due : ℕ → List ℕ
+  due next = dayLines (listedFrom days next)
+
+  abbrev end : ℕ
+  end = before + length (due 0)
+
+  pub record Printing (room : ℕ) (buffer : List ℕ) (written next : ℕ) : Type 0 where
+    pub same : length buffer ≡ room
+    pub each : EachFits room (listedFrom days next)
+    pub left : drop written (outputOf q) ≡ due next ++ drop end (outputOf q)
+    pub sum : written + length (due next) ≡ end
+
+  pub printing-start : (buffer : List ℕ) → EachFits (length buffer) (listedFrom days 0) → NextBytes q before (due 0) → Printing (length buffer) buffer before 0
+  printing-start buffer each n = record { same = refl; each = each; left = due-of q before (due 0) n; sum = refl }
+
+  module _ (room : ℕ) (buffer : List ℕ) (written next : ℕ) (p : Printing room buffer written next) (piece : Piece) (after : List ℕ)
+      (told : piece ≡ linesPiece days next (length buffer)) (put : after ≡ linesAfter days next buffer) where
+    pub step : Going days next buffer piece after
+    step = rw (told, put) (going days next buffer (rw (p .same) (p .each)))
+
+    left-now : drop written (outputOf q) ≡ take (piece .bytes) after ++ (due (piece .next) ++ drop end (outputOf q))
+    left-now = p .left ∙ ap (λ (l : List ℕ). l ++ drop end (outputOf q)) (step .lines) ∙ append-assoc (take (piece .bytes) after) (due (piece .next)) (drop end (outputOf q))
+
+    pub next-piece : NextBytes q written (take (piece .bytes) after)
+    next-piece = next-of q written (take (piece .bytes) after) (due (piece .next) ++ drop end (outputOf q)) left-now
+
+    -- all that is due is written
+    pub printed : piece .bytes ≡ 0 → written ≡ end
+    unfolding dayLines
+    printed none = omega (arith, p .sum, ap (λ (ds : List ℕ). length (dayLines ds)) (step .done none))
+
+    -- the bytes of a piece, within the output
+    length-now : length (outputOf q) - written ≡ piece .bytes + length (due (piece .next) ++ drop end (outputOf q))
+    length-now =
+        sym (length-drop written (outputOf q))
+        ∙ ap length left-now
+        ∙ length-append (take (piece .bytes) after) (due (piece .next) ++ drop end (outputOf q))
+        ∙ ap (λ (n : ℕ). n + length (due (piece .next) ++ drop end (outputOf q))) (step .front)
+
+    pub countable : refusalOf q ≡ 0 → (piece .bytes ≡ 0 → ⊥) → written + piece .bytes ≤ 51404928
+    countable e some = omega (arith, length-now, output-short q e)
+
+    pub fewer : (piece .bytes ≡ 0 → ⊥) → length (due (piece .next)) < length (due next)
+    fewer some = omega (arith, step .front, ap length (step .lines) ∙ length-append (take (piece .bytes) after) (due (piece .next)))
+
+    pub printing-step : length after ≡ length buffer → Printing room after (written + piece .bytes) (piece .next)
+    printing-step kept =
+        record {
+          same = kept ∙ p .same;
+          each = step .fits-on room (p .each);
+          left =
+              ap (λ (n : ℕ). drop (written + n) (outputOf q)) (sym (step .front))
+              ∙ left-of q written (take (piece .bytes) after) (due (piece .next) ++ drop end (outputOf q)) left-now;
+          sum = omega (arith, p .sum, step .front, ap length (step .lines) ∙ length-append (take (piece .bytes) after) (due (piece .next)));
+        }

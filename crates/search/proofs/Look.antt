@@ -1,0 +1,105 @@
+-- What the look says of a day, by the outcomes of its tests: no such day, refused, the Sun outside its arc, inside it, in the span and outside it.
+-- Assumes nothing.
+use mathlib.Core.Path.{_≡_, refl, ap, sym, _∙_}
+use mathlib.Core.Bool.{Bool, true, false, cond, not, _&&_, false≢true}
+use Prim.Native.Nat.{ℕ, _+_, _-_, _/_, _≤_, _<_}
+use native.Mathlib.Omega.{arith}
+use lib.Dec.{leb}
+use borrow.Author.Tests.{leb-true, le-leb, lt-leb, eq-eqb, ne-eqb, not-true, not-false}
+use Rattle.days.specs.declared.Day.{Day}
+use Rattle.days.specs.Days.{lastDay, pairAt, weekdayOn}
+use Rattle.days.proofs.Laws.{pair-in-range}
+use Rattle.longitudes.specs.Longitudes.{circle}
+use Rattle.query.specs.declared.Query.{Query}
+use Rattle.query.specs.Query.{sunArc, conditionsMet, inSpan, matches, refusalOf}
+use Rattle.query.specs.Conditions.{meets, othersMet, asksMore}
+use Rattle.query.proofs.Accepted.{accepted-by}
+use Rattle.query.proofs.Conditions.{weekday-not-met, others-decide, no-more}
+use Rattle.search.specs.declared.Examined.{Examined}
+use Rattle.search.specs.Look.{sunInArc, nextDay, notExamined, examinedOf}
+use Rattle.search.specs.Passes.{examinedAnyDay}
+use Rattle.search.proofs.Circle.{past}
+use Rattle.search.proofs.Arc.{past-out, next-in, next-out}
+use Rattle.search.proofs.Skip.{outside-unmatched}
+
+abbrev said : Bool → ℕ → Examined
+said matches next = record { refusal = 0; matches = matches; next = next }
+
+-- day n, whose pair is d, has the Sun in its arc, or no such arc is given
+pub record Inside (q : Query) (n : ℕ) (d : Day) : Type 0 where
+  pub low : n ≤ lastDay
+  pub pair : d ≡ pairAt n
+  pub sun : sunInArc q n ≡ true
+
+module _ (q : Query) (n : ℕ) where
+  any-day : n ≤ lastDay → examinedAnyDay q n ≡ said (conditionsMet q n) (nextDay q n)
+  unfolding examinedAnyDay
+  any-day h = rw (le-leb n lastDay h)
+
+  pub no-day : lastDay < n → notExamined 2 ≡ examinedAnyDay q n
+  unfolding examinedAnyDay
+  no-day h = rw (lt-leb n lastDay h)
+
+  -- inside the arc, or without one: the next day
+  inside : (found : Bool) → n ≤ lastDay → sunInArc q n ≡ true → conditionsMet q n ≡ found → said found (n + 1) ≡ examinedAnyDay q n
+  inside found h i m = rw (any-day h, m, next-in q n i)
+
+  -- the tests that follow inside, in turn: the weekday, whether more is asked, and what more
+  module _ (d : Day) (i : Inside q n d) (weekday : Bool) (w : weekday ≡ meets (q .weekday) (weekdayOn n)) where
+    pub by-weekday : not weekday ≡ true → said false (n + 1) ≡ examinedAnyDay q n
+    by-weekday f = inside false (i .low) (i .sun) (weekday-not-met q n (sym w ∙ not-true weekday f))
+
+    by-others : (others : Bool) → not weekday ≡ false → othersMet q d ≡ others → said others (n + 1) ≡ examinedAnyDay q n
+    by-others others t e =
+        inside others (i .low) (i .sun)
+        (others-decide q n (i .low) (unfold sunInArc in i .sun) (sym w ∙ not-false weekday t) ∙ ap (othersMet q) (sym (i .pair)) ∙ e)
+
+    pub by-no-more : (more : Bool) → not weekday ≡ false → more ≡ asksMore q → not more ≡ true → said true (n + 1) ≡ examinedAnyDay q n
+    by-no-more more t e f = by-others true t (no-more q d (sym e ∙ not-true more f) (rw (i .pair) (pair-in-range n (i .low))))
+
+    pub by-more : (others : Bool) → not weekday ≡ false → others ≡ othersMet q d → said others (n + 1) ≡ examinedAnyDay q n
+    by-more others t e = by-others others t (sym e)
+
+  -- outside: no match, and the jump
+  pub outside :
+      n ≤ lastDay →
+      refusalOf q ≡ 0 →
+      sunArc q .given ≡ true →
+      sunArc q .width ≤ past (sunArc q .start) n →
+      said false (n + (circle - past (sunArc q .start) n + 3548) / 3549) ≡ examinedAnyDay q n
+  outside h e g w =
+      let f = past-out q n g w in
+      rw (any-day h, outside-unmatched q n f, next-out q (accepted-by q e .sun) n f)
+
+  pub refused-day : lastDay < n → notExamined 2 ≡ examinedOf q n
+  unfolding examinedOf
+  refused-day h = rw (lt-leb n lastDay h)
+
+  pub refused-query : (refusal : ℕ) → n ≤ lastDay → refusal ≡ refusalOf q → (refusal ≡ 0 → ⊥) → notExamined refusal ≡ examinedOf q n
+  unfolding examinedOf
+  refused-query refusal h e z = rw (le-leb n lastDay h, ne-eqb (refusalOf q) 0 (λ k. z (e ∙ k)), e)
+
+  module _ (e : refusalOf q ≡ 0) where
+    in-span-low : inSpan q n ≡ true → n ≤ q .last
+    in-span-low s = leb-true n (q .last) (second (leb (q .first) n) s)
+      where
+        second : (a : Bool) {b : Bool} → (a && b) ≡ true → b ≡ true
+        second true s = s
+        second false s = absurd (false≢true s)
+
+    -- a day of the span
+    pub examined-at : inSpan q n ≡ true → examinedOf q n ≡ said (conditionsMet q n) (nextDay q n)
+    unfolding examinedOf matches
+    examined-at s = rw (le-leb n lastDay (omega (arith, in-span-low s, accepted-by q e .last)), eq-eqb (refusalOf q) 0 e, s)
+
+    pub any-day-in-span : inSpan q n ≡ true → examinedAnyDay q n ≡ examinedOf q n
+    any-day-in-span s = any-day (omega (arith, in-span-low s, accepted-by q e .last)) ∙ sym (examined-at s)
+
+    -- a day that is not of the span
+    pub any-day-outside-span : inSpan q n ≡ false → record { refusal = examinedAnyDay q n .refusal; matches = false; next = examinedAnyDay q n .next } ≡ examinedOf q n
+    unfolding examinedAnyDay examinedOf matches
+    any-day-outside-span s = rw (eq-eqb (refusalOf q) 0 e, s) (either (leb n lastDay))
+      where
+        either : (b : Bool) → record { refusal = cond b (said (conditionsMet q n) (nextDay q n)) (notExamined 2) .refusal; matches = false; next = cond b (said (conditionsMet q n) (nextDay q n)) (notExamined 2) .next } ≡ cond b (said false (nextDay q n)) (notExamined 2)
+        either true = refl
+        either false = refl

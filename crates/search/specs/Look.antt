@@ -1,0 +1,40 @@
+-- What is said of a day, and which day the walk takes after it.
+-- Assumes nothing.
+use mathlib.Core.Bool.{Bool, false, cond}
+use Prim.Native.Nat.{ℕ, _+_}
+use lib.Dec.{leb, eqb}
+use Rattle.days.specs.Refusals.{accepted, outOfRange}
+use Rattle.days.specs.Days.{lastDay, pairAt}
+use Rattle.integers.specs.RoundedUp.{roundedUp}
+use Rattle.longitudes.specs.Longitudes.{differenceOf, longitudeAt}
+use Rattle.query.specs.declared.Query.{Query}
+use Rattle.query.specs.Conditions.{inArc}
+use Rattle.query.specs.Query.{sunArc, matches, refusalOf}
+use Rattle.search.specs.declared.Examined.{Examined}
+
+-- the mean Sun of day n
+abbrev pub sunOn : ℕ → ℕ
+sunOn n = longitudeAt 0 (pairAt n)
+
+-- the mean Sun of day n is in the Sun's arc, where one is given
+unfoldable pub sunInArc : Query → ℕ → Bool
+sunInArc q n = inArc (sunArc q) (sunOn n)
+
+-- the seconds forward from day n's mean Sun to the start of the Sun's arc: paper 01's g
+abbrev pub secondsAhead : Query → ℕ → ℕ
+secondsAhead q n = differenceOf (sunArc q .start) (sunOn n)
+
+-- the day that the walk takes after day n: the next one, or from outside the arc the one g / 3549, rounded up, later
+unfoldable pub nextDay : Query → ℕ → ℕ
+nextDay q n = cond (sunInArc q n) (n + 1) (n + roundedUp (secondsAhead q n) 3549)
+
+-- a refused look: all zeros
+abbrev pub notExamined : ℕ → Examined
+notExamined refusal = record { refusal = refusal; matches = false; next = 0 }
+
+-- paper 01's look at day n: refused where n is no day or the search refuses the query; else whether the day fits, and the day that the walk takes next
+unfoldable pub examinedOf : Query → ℕ → Examined
+examinedOf q n =
+    cond (leb n lastDay)
+    (cond (eqb (refusalOf q) accepted) (record { refusal = accepted; matches = matches q n; next = nextDay q n }) (notExamined (refusalOf q)))
+    (notExamined outOfRange)

@@ -1,0 +1,17 @@
+-- A part of a query's span: what laws, and private contracts above, cite.
+-- Assumes nothing.
+use Prim.Native.Nat.{ℕ}
+use Rattle.query.specs.declared.Query.{Query}
+
+-- the query over the days from a to b, both counted
+abbrev pub between : Query → ℕ → ℕ → Query
+between q a b =
+    record {
+      first = a;
+      last = b;
+      weekday = q .weekday;
+      tithi = q .tithi;
+      nakshatra = q .nakshatra;
+      yoga = q .yoga;
+      arcs = q .arcs;
+    }

@@ -1,0 +1,62 @@
+-- A value that is read is accepted, or refused with 1, 2 or 3. Assumes nothing.
+use mathlib.Core.Bool.{Bool, true, false, cond, _&&_}
+use mathlib.Core.List.{List}
+use Prim.Native.Nat.{ℕ, _≤_}
+use native.Mathlib.Omega.{arith}
+use lib.Dec.{eqb, ltb}
+use lib.ListN.{length}
+use Rattle.civil.specs.declared.Date.{Date}
+use Rattle.civil.proofs.Laws.{Answered, no-such, day, outside, answered}
+use Rattle.days.specs.declared.NumberAnswer.{NumberAnswer}
+use Rattle.days.specs.Refusals.{badInput}
+use Rattle.text.specs.Decimal.{isNumber, numberRead}
+use Rattle.words.specs.Names.{weekdayNames}
+use Rattle.words.specs.Words.{dash, colon, placeIn}
+use Rattle.values.specs.declared.Three.{Three}
+use Rattle.values.specs.Values.{isRead, threeRead, sexagesimalRead, dateRead, numberOr, angleRead, dayRead, weekdayRead, noneRead}
+
+-- what holds of both cases holds of the one that a test picks
+pub either : {A : Type 0} (P : A → Type 0) (t : Bool) {x y : A} → P x → P y → P (cond t x y)
+either P true px py = px
+either P false px py = py
+
+abbrev pub OfReading : NumberAnswer → Type 0
+OfReading a = a .refusal ≤ badInput
+
+pub number-refusal : (w : List ℕ) → OfReading (numberRead w)
+unfolding numberRead
+number-refusal w = either OfReading (isNumber w) (omega arith) (omega arith)
+
+sexagesimal-refusal : (t : Three) → OfReading (sexagesimalRead t)
+unfolding sexagesimalRead
+sexagesimal-refusal t =
+    either OfReading (t .read && (ltb (t .first) 1000 && (ltb (t .second) 60 && ltb (t .third) 60))) (omega arith) (omega arith)
+
+answer-refusal : (x : Date) (a : NumberAnswer) → Answered x a → OfReading a
+answer-refusal x _ (no-such k) = omega arith
+answer-refusal x _ (day n h e) = omega arith
+answer-refusal x _ (outside k h) = omega arith
+
+date-refusal : (t : Three) → OfReading (dateRead t)
+unfolding dateRead
+date-refusal t = either OfReading (t .read) (answer-refusal _ _ (answered _)) (omega arith)
+
+number-or-refusal : (w : List ℕ) (other : NumberAnswer) → OfReading other → OfReading (numberOr w other)
+unfolding numberOr
+number-or-refusal w other p = either OfReading (isRead (numberRead w)) (number-refusal w) p
+
+pub day-refusal : (w : List ℕ) → OfReading (dayRead w)
+unfolding dayRead
+day-refusal w = number-or-refusal w _ (date-refusal (threeRead dash w))
+
+pub angle-refusal : (w : List ℕ) → OfReading (angleRead w)
+unfolding angleRead
+angle-refusal w = number-or-refusal w _ (sexagesimal-refusal (threeRead colon w))
+
+pub weekday-refusal : (w : List ℕ) → OfReading (weekdayRead w)
+unfolding weekdayRead
+weekday-refusal w = either OfReading (ltb (placeIn weekdayNames w) 7) (omega arith) (number-refusal w)
+
+pub none-refusal : (w : List ℕ) → OfReading (noneRead w)
+unfolding noneRead
+none-refusal w = either OfReading (eqb (length w) 0) (omega arith) (omega arith)
