@@ -3,7 +3,8 @@
 crate is refused says of one of them that it is, so the prover's log is read for each:
 
 - every function that the edit changes is refused, by a fact that fails in that function's own proof (or by `search`, where it has none);
-- where the edit changes what a function promises too, or brings a new one, it may be proved: then a fact fails in a function that names it;
+- where the edit changes what a function promises too, or brings a new one, it may be proved: then a fact fails in a function that names it, or in one
+  that is called beside it;
 - where it changes a constant (or a struct), a fact fails in the proof of a function that names it or a constant made of it; where a meaning or a law, in some proof.
 
 A proof that no longer fits the code (a name that is not there, a step that hangs on a refused one) is no fact. docs/contracts.md must
@@ -100,7 +101,11 @@ def complaints(crate, label):
     reached = [name for name in own if own[name] in facts]
     for user in reached:
         reached += [name for name in apart if name not in reached and re.search(rf"\b{re.split('::| ', name)[-1]}\b", after.get(user, ""))]
-    found += [f"no fact fails in a function that names {name}" for name in apart if name not in reached]
+    for name in apart:
+        beside = [user for user in own if re.search(rf"\b{re.split('::| ', name)[-1]}\b", after.get(user, "")) and user != name]
+        called = [callee for callee in reached if any(re.search(rf"\b{callee.split('::')[-1]}\(", after[user]) for user in beside)]
+        if name not in reached and not called:
+            found.append(f"no fact fails in a function that names {name} or is called beside it")
     meant = any(changed(files(whole, part), files(edited, part)) for part in ("specs", "proofs"))
     if meant and not facts - {own[name] for name in wrong if name in own}:
         found.append("no fact fails in a proof of what stands as it was")
