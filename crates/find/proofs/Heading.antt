@@ -3,14 +3,11 @@ use mathlib.Core.Path.{_≡_, ap, ap₂, sym, _∙_}
 use mathlib.Core.List.{List, _++_}
 use Prim.Native.Nat.{ℕ, _≤_}
 use native.Mathlib.Omega.{arith}
-use borrow.Author.Tests.{eq-eqb}
 use lib.ListN.{length, take, drop}
 use lib.Seq.{take-append-seam}
 use Rattle.query.specs.declared.Query.{Query}
 use Rattle.query.specs.Query.{refusalOf}
-use Rattle.search.specs.declared.Found.{Found}
-use Rattle.search.specs.Days.{matchingDays}
-use Rattle.search.specs.Search.{Measured}
+use Rattle.search.specs.Days.{matchingDays, visitedDays}
 use Rattle.text.specs.Lines.{lineCapacity}
 use Rattle.catalogue.specs.declared.Piece.{Piece}
 use Rattle.catalogue.specs.Catalogue.{catalogueHeading}
@@ -20,15 +17,13 @@ use Rattle.find.specs.Output.{headingOf, outputOf, NextBytes}
 use Rattle.find.proofs.Bounds.{heading-short}
 use Rattle.find.proofs.Next.{next-of}
 
-module _ (q : Query) (e : refusalOf q ≡ 0) (found : Found) (measured : Measured q found) (before : List ℕ) (room : lineCapacity ≤ length before) (piece : Piece)
-    (after : List ℕ) (told : piece ≡ headingPiece (found .length) (found .examined) (length before)) (put : after ≡ headingAfter (found .length) (found .examined) before) where
-  counted : catalogueHeading (found .length) (found .examined) ≡ headingOf q
-  counted =
-      let good = eq-eqb (refusalOf q) 0 e in
-      ap₂ catalogueHeading (measured .count ∙ rw good) (measured .visits ∙ rw good)
+module _ (q : Query) (e : refusalOf q ≡ 0) (n k : ℕ) (count : n ≡ length (matchingDays q)) (visits : k ≡ length (visitedDays q)) (before : List ℕ) (room : lineCapacity ≤ length before) (piece : Piece)
+    (after : List ℕ) (told : piece ≡ headingPiece n k (length before)) (put : after ≡ headingAfter n k before) where
+  counted : catalogueHeading n k ≡ headingOf q
+  counted = ap₂ catalogueHeading count visits
 
-  headed : Headed (found .length) (found .examined) before (thePiece (length (catalogueHeading (found .length) (found .examined))) 0) (withFront (catalogueHeading (found .length) (found .examined)) before)
-  headed = heading-put (found .length) (found .examined) before (omega (arith, heading-short q e, ap length counted))
+  headed : Headed n k before (thePiece (length (catalogueHeading n k)) 0) (withFront (catalogueHeading n k) before)
+  headed = heading-put n k before (omega (arith, heading-short q e, ap length counted))
 
   pub heading-bytes : piece .bytes ≡ length (headingOf q)
   heading-bytes = ap (λ (p : Piece). p .bytes) (told ∙ headed .answer) ∙ ap length counted
@@ -36,8 +31,8 @@ module _ (q : Query) (e : refusalOf q ≡ 0) (found : Found) (measured : Measure
   pub heading-taken : take (piece .bytes) after ≡ headingOf q
   heading-taken =
       ap (λ (n : ℕ). take n after) (ap (λ (p : Piece). p .bytes) (told ∙ headed .answer))
-      ∙ ap (take (length (catalogueHeading (found .length) (found .examined)))) (put ∙ headed .put)
-      ∙ take-append-seam (catalogueHeading (found .length) (found .examined)) (drop (length (catalogueHeading (found .length) (found .examined))) before)
+      ∙ ap (take (length (catalogueHeading n k))) (put ∙ headed .put)
+      ∙ take-append-seam (catalogueHeading n k) (drop (length (catalogueHeading n k)) before)
       ∙ counted
 
   pub heading-next : NextBytes q 0 (take (piece .bytes) after)

@@ -2,5 +2,6 @@ mod Bounds
 mod Next
 mod Heading
 mod Printing
+mod Listed
 mod Parting
 mod Pages

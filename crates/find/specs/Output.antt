@@ -2,12 +2,13 @@
 -- Assumes nothing.
 use mathlib.Core.Path.{_≡_}
 use mathlib.Core.List.{List, _++_}
-use Prim.Native.Nat.{ℕ}
+use Prim.Native.Nat.{ℕ, _*_}
 use lib.ListN.{length, take, drop}
 use Rattle.query.specs.declared.Query.{Query}
 use Rattle.search.specs.Days.{matchingDays, visitedDays}
 use Rattle.catalogue.specs.Catalogue.{catalogueHeading}
-use Rattle.catalogue.specs.Pieces.{dayLines}
+use Rattle.catalogue.specs.Pieces.{listedFrom, dayLines}
+use Rattle.catalogue.specs.Each.{EachFits}
 
 -- the heading for a query, with the number of matching days and of days looked at
 abbrev pub headingOf : Query → List ℕ
@@ -20,3 +21,17 @@ outputOf q = headingOf q ++ dayLines (matchingDays q)
 -- these bytes are the output's, behind its first n
 abbrev pub NextBytes : Query → ℕ → List ℕ → Type 0
 NextBytes q n bytes = take (length bytes) (drop n (outputOf q)) ≡ bytes
+
+-- the bytes of a list's first n entries
+abbrev pub front : List ℕ → ℕ → List ℕ
+front list n = take (4 * n) list
+
+-- the days of these entries
+abbrev pub frontDays : List ℕ → ℕ → List ℕ
+frontDays list n = listedFrom (front list n) 0
+
+-- a list has n entries, their days' lines are the output's next bytes, and each line fits whole into a buffer of so many bytes
+pub record NextDays (q : Query) (before : ℕ) (list : List ℕ) (n room : ℕ) : Type 0 where
+  pub there : length (front list n) ≡ 4 * n
+  pub next : NextBytes q before (dayLines (frontDays list n))
+  pub each : EachFits room (frontDays list n)

@@ -3,6 +3,7 @@ use days::refusal;
 use libc::STDOUT_FILENO;
 use page::PageRead;
 use query::Query;
+use search::Found;
 ghost use mathlib.Core.Path.{_≡_};
 ghost use mathlib.Core.Bool.{true};
 ghost use Prim.Native.Nat.{_+_, _<_, _≤_};
@@ -11,13 +12,14 @@ ghost use Rattle.query.specs.Query.{refusalOf};
 ghost use Rattle.text.specs.Lines.{lineCapacity};
 ghost use Rattle.catalogue.specs.Pieces.{listedFrom, dayLines};
 ghost use Rattle.catalogue.specs.Each.{EachFits};
+ghost use Rattle.search.specs.Days.{matchingDays, visitedDays};
 ghost use Rattle.search.specs.Spans.{between};
-ghost use Rattle.find.specs.Output.{headingOf, outputOf, NextBytes};
+ghost use Rattle.find.specs.Output.{headingOf, outputOf, NextBytes, frontDays, NextDays};
 
 // A page has fewer bytes. With the list and the buffer a run keeps within 1 MiB of stack.
 const INPUT: usize = 524288;
 
-// The span is searched part by part, with an entry of the list for each day of a part.
+// A span with more matching days than the list has entries is searched part by part, with an entry for each day of a part.
 const PART: u32 = 16384;
 
 const LIST: usize = entries::ENTRY_BYTES * PART as usize;
@@ -37,11 +39,11 @@ fn write_next(query: Query, before: usize, bytes: &[u8]) -> bool
     io::write_all(STDOUT_FILENO, bytes)
 }
 
-fn print_heading(query: Query, buffer: &mut [u8]) -> Written
+fn print_heading(query: Query, found: Found, buffer: &mut [u8]) -> Written
     requires { ⌜ (refusalOf query ≡ 0) × (lineCapacity ≤ length (now buffer)) ⌝ }
+    requires { ⌜ (found .length ≡ length (matchingDays query)) × (found .examined ≡ length (visitedDays query)) ⌝ }
     ensures { λ r. ⌜ r .bytes ≡ length (headingOf query) ⌝ }
 {
-    let found = search::measure(query);
     let piece = catalogue::heading(found.length, found.examined, buffer);
     let bytes = piece.bytes;
     let whole = write_next(query, 0, &buffer[..bytes]);
@@ -75,6 +77,21 @@ fn print_days(query: Query, before: usize, days: &[u8], buffer: &mut [u8]) -> Wr
     }
 }
 
+// The lines of the days that a search put at the front of the list.
+fn print_listed(
+    query: Query,
+    before: usize,
+    found: Found,
+    list: &[u8],
+    buffer: &mut [u8],
+) -> Written
+    requires { ⌜ (refusalOf query ≡ 0) × NextDays query before (now list) (found .length) (length (now buffer)) ⌝ }
+    ensures { λ r. ⌜ (r .whole ≡ true → r .bytes ≡ before + length (dayLines (frontDays (now (list .entry)) (found .length)))) ⌝ }
+{
+    let end = entries::ENTRY_BYTES * found.length as usize;
+    print_days(query, before, &list[..end], buffer)
+}
+
 // The last day of the part that begins with a day.
 fn part_end(first: u32, last: u32) -> u32
     requires { ⌜ first ≤ last ⌝ }
@@ -106,8 +123,7 @@ fn print_parts(query: Query, before: usize, list: &mut [u8], buffer: &mut [u8]) 
     while first <= query.last {
         let last = part_end(first, query.last);
         let found = search::search(part_of(query, first, last), list);
-        let end = entries::ENTRY_BYTES * found.length as usize;
-        let printed = print_days(query, written, &list[..end], buffer);
+        let printed = print_listed(query, written, found, list, buffer);
         if !printed.whole {
             return printed;
         }
@@ -120,16 +136,21 @@ fn print_parts(query: Query, before: usize, list: &mut [u8], buffer: &mut [u8]) 
     }
 }
 
-// Where no write fails, all of the output is written.
+// Where no write fails, all of the output is written. The heading has the number of matching days, so the whole span is searched before it, and where the list has
+// an entry for each of them they are listed already.
 fn print_found(query: Query, list: &mut [u8], buffer: &mut [u8]) -> Written
     requires { ⌜ (refusalOf query ≡ 0) × (65536 ≤ length (now list)) × (lineCapacity ≤ length (now buffer)) ⌝ }
     ensures { λ r. ⌜ (r .whole ≡ true → r .bytes ≡ length (outputOf query)) ⌝ }
 {
-    let heading = print_heading(query, buffer);
+    let found = search::search(query, list);
+    let heading = print_heading(query, found, buffer);
     if !heading.whole {
         return heading;
     }
-    print_parts(query, heading.bytes, list, buffer)
+    if found.refusal != refusal::NONE {
+        return print_parts(query, heading.bytes, list, buffer);
+    }
+    print_listed(query, heading.bytes, found, list, buffer)
 }
 
 fn find_days(query: Query)

@@ -1,4 +1,4 @@
--- `print_heading` meets its contract: what is measured is the query's, and the heading is the output's front. Assumes nothing.
+-- `print_heading` meets its contract: its numbers are the query's, and the heading is the output's front. Assumes nothing.
 use mathlib.Core.Path.{ap, sym, _∙_}
 use native.Mathlib.Omega.{arith}
 use lib.ListN.{length}
@@ -8,32 +8,26 @@ use borrow.Author.Needs.{needs}
 use Rattle.find.proofs.print_heading.Statement.{statement}
 use Rattle.find.proofs.print_heading.Tie as tie
 
-measure-requires : tie.Need-measure-requires
-measure-requires c κs = search needs
-
 heading-requires : tie.Need-heading-requires
 heading-requires c κs = search needs
 
 slice-reshare-prefix-write-next : tie.Need-slice-reshare-prefix-write-next
 slice-reshare-prefix-write-next c =
     let called = c .before .before in
-    let counted = called .before .before in
-    let start = counted .before .before in
-    omega (arith, heading-short _ (start .pre .0), heading-bytes _ (start .pre .0) _ (counted .measure .ensures) _ (start .pre .1) _ _ (called .heading .ensures .0) (called .heading .ensures .1), called .heading .kept .1 .1 .0)
+    let start = called .before .before .before in
+    omega (arith, heading-short _ (start .pre .0 .0), heading-bytes _ (start .pre .0 .0) _ _ (start .pre .1 .0) (start .pre .1 .1) _ (start .pre .0 .1) _ _ (called .heading .ensures .0) (called .heading .ensures .1), called .heading .kept .1 .1 .0)
 
 slice-aggregate-write-next : tie.Need-slice-aggregate-write-next
 slice-aggregate-write-next c =
     let called = c .before .before .before in
-    let counted = called .before .before in
-    let start = counted .before .before in
-    heading-bytes _ (start .pre .0) _ (counted .measure .ensures) _ (start .pre .1) _ _ (called .heading .ensures .0) (called .heading .ensures .1) ∙ ap length (sym (heading-taken _ (start .pre .0) _ (counted .measure .ensures) _ (start .pre .1) _ _ (called .heading .ensures .0) (called .heading .ensures .1)))
+    let start = called .before .before .before in
+    heading-bytes _ (start .pre .0 .0) _ _ (start .pre .1 .0) (start .pre .1 .1) _ (start .pre .0 .1) _ _ (called .heading .ensures .0) (called .heading .ensures .1) ∙ ap length (sym (heading-taken _ (start .pre .0 .0) _ _ (start .pre .1 .0) (start .pre .1 .1) _ (start .pre .0 .1) _ _ (called .heading .ensures .0) (called .heading .ensures .1)))
 
 write-next-requires : tie.Need-write-next-requires
 write-next-requires c κs =
     let called = c .before .before .before in
-    let counted = called .before .before in
-    let start = counted .before .before in
-    heading-next _ (start .pre .0) _ (counted .measure .ensures) _ (start .pre .1) _ _ (called .heading .ensures .0) (called .heading .ensures .1)
+    let start = called .before .before .before in
+    heading-next _ (start .pre .0 .0) _ _ (start .pre .1 .0) (start .pre .1 .1) _ (start .pre .0 .1) _ _ (called .heading .ensures .0) (called .heading .ensures .1)
 
 same-length : tie.Need-same-length
 same-length c = search needs
@@ -41,15 +35,13 @@ same-length c = search needs
 returns : tie.Need-returns
 returns c =
     let called = c .before .before .before .before in
-    let counted = called .before .before in
-    let start = counted .before .before in
-    heading-bytes _ (start .pre .0) _ (counted .measure .ensures) _ (start .pre .1) _ _ (called .heading .ensures .0) (called .heading .ensures .1)
+    let start = called .before .before .before in
+    heading-bytes _ (start .pre .0 .0) _ _ (start .pre .1 .0) (start .pre .1 .1) _ (start .pre .0 .1) _ _ (called .heading .ensures .0) (called .heading .ensures .1)
 
 pub print-heading-spec : {M : Type 1} → statement M
 print-heading-spec =
     tie.close
     (tie.spec
-    measure-requires
     heading-requires
     slice-reshare-prefix-write-next
     slice-aggregate-write-next

@@ -4,11 +4,10 @@ use mathlib.Core.Path.{_≡_, refl, sym, _∙_}
 use mathlib.Core.Bool.{false≢true}
 use native.Mathlib.Omega.{arith}
 use lib.ListN.{length}
-use lib.Seq.{length-take-le}
 use Rattle.query.proofs.Accepted.{accepted-by}
 use borrow.Author.Tests.{not-true, not-false}
 use borrow.Author.Needs.{needs}
-use Rattle.find.proofs.Parting.{Parting, parting-start, parted, lent-within, lent-fits, lent-next, parting-step}
+use Rattle.find.proofs.Parting.{Parting, parting-start, parted, part-fits, part-next, parting-step}
 use Rattle.find.proofs.print_parts.Statement.{statement}
 use Rattle.find.proofs.print_parts.Tie as tie
 
@@ -31,77 +30,53 @@ part-of-requires c κs = search needs
 search-requires : tie.Need-search-requires Inv-loop μ-loop
 search-requires c κs = search needs
 
-cast-end : tie.Need-cast-end Inv-loop μ-loop
-cast-end c = search needs
-
-mul-end : tie.Need-mul-end Inv-loop μ-loop
-mul-end c = omega arith
-
-slice-reshare-prefix-print-days : tie.Need-slice-reshare-prefix-print-days Inv-loop μ-loop
-slice-reshare-prefix-print-days c =
-    let searched = c .before .before .before in
-    let ends = searched .before .before .before in
-    let l = ends .before .before .before in
-    let start = l .before .before .before in
-    let room : 65536 ≤ length (l .loop .list) = omega (arith, start .pre .1 .0, l .loop .inv .0) in
-    let found = rw (searched .before .before .part-of .ensures) at (searched .search .ensures) in
-    lent-within _ (start .pre .0 .0) _ _ _ (l .loop .inv .2) (ends .part-end .ensures .0) (ends .part-end .ensures .1) (ends .part-end .ensures .2) _ room _ _ found
-
-slice-aggregate-print-days : tie.Need-slice-aggregate-print-days Inv-loop μ-loop
-slice-aggregate-print-days c =
+print-listed-requires : tie.Need-print-listed-requires Inv-loop μ-loop
+print-listed-requires c κs =
     let searched = c .before .before .before .before in
     let ends = searched .before .before .before in
     let l = ends .before .before .before in
     let start = l .before .before .before in
     let room : 65536 ≤ length (l .loop .list) = omega (arith, start .pre .1 .0, l .loop .inv .0) in
     let found = rw (searched .before .before .part-of .ensures) at (searched .search .ensures) in
-    sym (length-take-le _ _ (lent-within _ (start .pre .0 .0) _ _ _ (l .loop .inv .2) (ends .part-end .ensures .0) (ends .part-end .ensures .1) (ends .part-end .ensures .2) _ room _ _ found))
-
-print-days-requires : tie.Need-print-days-requires Inv-loop μ-loop
-print-days-requires c κs =
-    let searched = c .before .before .before .before .before in
-    let ends = searched .before .before .before in
-    let l = ends .before .before .before in
-    let start = l .before .before .before in
-    let room : 65536 ≤ length (l .loop .list) = omega (arith, start .pre .1 .0, l .loop .inv .0) in
-    let found = rw (searched .before .before .part-of .ensures) at (searched .search .ensures) in
-    (start .pre .0 .0, lent-fits _ (start .pre .0 .0) _ _ _ (l .loop .inv .2) (ends .part-end .ensures .0) (ends .part-end .ensures .1) (ends .part-end .ensures .2) _ room _ _ found _ (omega (arith, start .pre .1 .1, l .loop .inv .1)), lent-next _ (start .pre .0 .0) _ _ _ (l .loop .inv .2) (ends .part-end .ensures .0) (ends .part-end .ensures .1) (ends .part-end .ensures .2) _ room _ _ found)
+    let fits = part-fits _ (start .pre .0 .0) _ _ (l .loop .list) (ends .part-end .ensures .2) room in
+    (start .pre .0 .0, part-next _ (start .pre .0 .0) _ _ _ (l .loop .inv .2) (ends .part-end .ensures .0) (ends .part-end .ensures .1) _ _ _ found fits _ (omega (arith, start .pre .1 .1, l .loop .inv .1)))
 
 same-length : tie.Need-same-length Inv-loop μ-loop
 same-length c =
-    let searched = c .before .before .before .before .before .before .before .before .before .before in
+    let searched = c .before .before .before .before .before .before .before .before .before in
     let l = searched .before .before .before .before .before .before in
     searched .search .kept .1 .0 ∙ l .loop .inv .0
 
 same-length-2 : tie.Need-same-length-2 Inv-loop μ-loop
 same-length-2 c =
     let printed = c .before .before .before .before in
-    let l = printed .before .before .before .before .before .before .before .before .before .before .before .before in
-    printed .print-days .kept .1 .1 .1 .0 ∙ l .loop .inv .1
+    let l = printed .before .before .before .before .before .before .before .before .before .before .before in
+    printed .print-listed .kept .1 .1 .1 .1 .0 ∙ l .loop .inv .1
 
 returns : tie.Need-returns Inv-loop μ-loop
 returns c = λ e. absurd (false≢true (sym (not-true _ (c .if2 .taken)) ∙ e))
 
 add-first : tie.Need-add-first Inv-loop μ-loop
 add-first c =
-    let ends = c .before .before .before .before .before .before .before .before .before .before .before .before .before in
+    let ends = c .before .before .before .before .before .before .before .before .before .before .before .before in
     omega (arith, ends .part-end .ensures .1, accepted-by _ (ends .before .before .before .before .before .before .pre .0 .0) .last)
 
 loop-less : tie.Need-loop-less Inv-loop μ-loop
 loop-less c =
-    let ends = c .before .before .before .before .before .before .before .before .before .before .before .before .before in
+    let ends = c .before .before .before .before .before .before .before .before .before .before .before .before in
     omega (arith, ends .part-end .ensures .0, ends .part-end .ensures .1)
 
 loop-again : tie.Need-loop-again Inv-loop μ-loop
 loop-again c =
-    let searched = c .before .before .before .before .before .before .before .before .before .before in
+    let searched = c .before .before .before .before .before .before .before .before .before in
     let ends = searched .before .before .before in
     let l = ends .before .before .before in
     let start = l .before .before .before in
     let room : 65536 ≤ length (l .loop .list) = omega (arith, start .pre .1 .0, l .loop .inv .0) in
     let found = rw (searched .before .before .part-of .ensures) at (searched .search .ensures) in
+    let fits = part-fits _ (start .pre .0 .0) _ _ (l .loop .list) (ends .part-end .ensures .2) room in
     let printed = c .before .before .before .before in
-    (searched .search .kept .1 .0 ∙ l .loop .inv .0, printed .print-days .kept .1 .1 .1 .0 ∙ l .loop .inv .1, parting-step _ (start .pre .0 .0) _ _ _ (l .loop .inv .2) (ends .part-end .ensures .0) (ends .part-end .ensures .1) (ends .part-end .ensures .2) _ room _ _ found _ (printed .print-days .ensures (not-false _ (c .if2 .left))))
+    (searched .search .kept .1 .0 ∙ l .loop .inv .0, printed .print-listed .kept .1 .1 .1 .1 .0 ∙ l .loop .inv .1, parting-step _ (start .pre .0 .0) _ _ _ (l .loop .inv .2) (ends .part-end .ensures .0) (ends .part-end .ensures .1) _ _ _ found fits _ (printed .print-listed .ensures (not-false _ (c .if2 .left))))
 
 same-length-3 : tie.Need-same-length-3 Inv-loop μ-loop
 same-length-3 c = c .before .before .loop .inv .0
@@ -122,11 +97,7 @@ print-parts-spec =
     part-end-requires
     part-of-requires
     search-requires
-    cast-end
-    mul-end
-    slice-reshare-prefix-print-days
-    slice-aggregate-print-days
-    print-days-requires
+    print-listed-requires
     same-length
     same-length-2
     returns
