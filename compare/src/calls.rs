@@ -93,14 +93,14 @@ unsafe extern "C" {
         from: u32,
         buffer: *mut u8,
         buffer_len: usize,
-    ) -> u32;
+    ) -> usize;
     pub fn bridge_lines_next(
         list: *const u8,
         list_len: usize,
         from: u32,
         buffer: *mut u8,
         buffer_len: usize,
-    ) -> u32;
+    ) -> usize;
 
     pub fn bridge_heading_result(
         length: u32,
@@ -113,5 +113,5 @@ unsafe extern "C" {
         examined: u32,
         buffer: *mut u8,
         buffer_len: usize,
-    ) -> u32;
+    ) -> usize;
 }

@@ -63,17 +63,17 @@ pub fn lines(almanac: &Almanac, list: &[u8]) -> Vec<Answer<String>> {
 pub struct Put {
     pub result: u32,
     /// How many bytes were put; with 7, how many would do.
-    pub bytes: u32,
+    pub bytes: usize,
     /// The number of the entry that comes next; 0 with a refusal.
-    pub next: u32,
+    pub next: usize,
     pub text: Vec<u8>,
 }
 
 impl Put {
-    fn accepted(text: String, next: u32) -> Put {
+    fn accepted(text: String, next: usize) -> Put {
         Put {
             result: 0,
-            bytes: text.len() as u32,
+            bytes: text.len(),
             next,
             text: text.into_bytes(),
         }
@@ -83,7 +83,7 @@ impl Put {
     fn refused(result: u32, bytes: usize) -> Put {
         Put {
             result,
-            bytes: bytes as u32,
+            bytes,
             next: 0,
             text: Vec::new(),
         }
@@ -106,13 +106,14 @@ impl Put {
 /// none at or behind an entry that is no day. Refused are a first entry that is no day and, with 7, a
 /// first line that doesn't fit; where no entry is left there is nothing to refuse.
 pub fn put_lines(lines: &[Answer<String>], from: u32, room: usize) -> Put {
-    let due = lines.get(from as usize..).unwrap_or_default();
+    let mut next = from as usize;
+    let due = lines.get(next..).unwrap_or_default();
     match due.first() {
         Some(Err(refusal)) => return Put::refused(*refusal, 0),
         Some(Ok(line)) if line.len() > room => return Put::no_room_for(line),
         _ => {}
     }
-    let (mut text, mut next) = (String::new(), from);
+    let mut text = String::new();
     for line in due.iter().map_while(|line| line.as_ref().ok()) {
         if text.len() + line.len() > room {
             break;

@@ -71,7 +71,11 @@ impl Listed {
 }
 
 /// A call that fills a buffer, its name, and where the second program has the number that it gives.
-type Call<'a> = (&'a str, &'a dyn Fn(*mut u8, usize) -> u32, fn(&Put) -> u32);
+type Call<'a> = (
+    &'a str,
+    &'a dyn Fn(*mut u8, usize) -> usize,
+    fn(&Put) -> usize,
+);
 
 /// Makes each call with a buffer of its own, compares its number and all memory about the buffer,
 /// and hands back the text that came.
@@ -103,8 +107,10 @@ fn compare(checks: &mut Checks, list: &Listed, from: u32, room: usize) -> Put {
     let calls: [Call; 3] = [
         (
             "bridge_lines_result",
-            &|buffer, room| unsafe { bridge_lines_result(bytes, count, from, buffer, room) },
-            |put| put.result,
+            &|buffer, room| unsafe {
+                bridge_lines_result(bytes, count, from, buffer, room) as usize
+            },
+            |put| put.result as usize,
         ),
         (
             "bridge_lines_bytes",
@@ -127,8 +133,8 @@ fn compare_heading(checks: &mut Checks, length: u32, looked: u32, room: usize) -
     let calls: [Call; 2] = [
         (
             "bridge_heading_result",
-            &|buffer, room| unsafe { bridge_heading_result(length, looked, buffer, room) },
-            |put| put.result,
+            &|buffer, room| unsafe { bridge_heading_result(length, looked, buffer, room) as usize },
+            |put| put.result as usize,
         ),
         (
             "bridge_heading_bytes",
@@ -149,11 +155,11 @@ fn text_in_pieces(checks: &mut Checks, list: &Listed, room: usize) -> Vec<u8> {
     while from < list.entries() {
         let mut put = compare(checks, list, from, room);
         if put.result == LIST_TOO_SHORT {
-            put = compare(checks, list, from, put.bytes as usize);
+            put = compare(checks, list, from, put.bytes);
         }
         from = match put.result {
             OUT_OF_RANGE => from + 1,
-            _ => put.next,
+            _ => put.next as u32,
         };
         text.extend(put.text);
     }
