@@ -27,6 +27,9 @@ dayOf x = yearDay (x .month) (x .day)
 abbrev pub stampOf : Date → ℕ
 stampOf x = stamp (yearOf x) (dayOf x)
 
+october-place : (m : ℕ) → 1 ≤ m → m ≤ 12 → place m ≡ 7 → m ≡ 10
+october-place m h k e = omega arith
+
 module _ (x : Date) (f : Fits x) where
   pub placed : InMonth (x .year) (x .month) (x .day)
   placed = in-month (x .year) (x .month) (x .day) (f .from-one) (f .to-twelve) (f .first) (f .final)
@@ -44,13 +47,13 @@ module _ (x : Date) (f : Fits x) where
 
   -- the days of October 1582, by their stamps
   pub october : 793014 ≤ stampOf x → stampOf x < 793045 → (x .year ≡ 1582) × ((x .month ≡ 10) × (x .day + 793013 ≡ stampOf x))
-  unfolding before
   october h k =
       let l = year-long in
       let y : yearOf x ≡ 1982 = omega arith in
       let p : place (x .month) ≡ 7 = omega (arith, placed .found) in
-      let b : before (place (x .month)) ≡ 214 = rw p in
-      omega (arith, months, f .from-one, f .to-twelve, f .first)
+      let m : x .month ≡ 10 = october-place (x .month) (f .from-one) (f .to-twelve) p in
+      let b : before (place (x .month)) ≡ 214 = rw m in
+      (omega (arith, months), (m, omega (arith, f .first)))
 
 -- a date that exists
 pub record Real (x : Date) : Type 0 where
@@ -69,7 +72,7 @@ not-lost x f e h = go (leb firstGregorianStamp (stampOf x)) refl
         absurd (false≢true (sym e ∙ rw (eq-eqb _ _ (o .0), eq-eqb _ _ (o .1 .0), lt-ltb 4 (x .day) (omega arith), lt-ltb (x .day) 15 (omega arith)) refl))
 
 lost-gap : (x : Date) → lost x ≡ true → (lastJulianStamp < stampOf x) × (stampOf x < firstGregorianStamp)
-unfolding lost before
+unfolding lost
 lost-gap x e =
     let a = and-eq-true-iff (eqb (x .year) 1582 && eqb (x .month) 10 && ltb 4 (x .day)) (ltb (x .day) 15) .0 e in
     let b = and-eq-true-iff (eqb (x .year) 1582 && eqb (x .month) 10) (ltb 4 (x .day)) .0 (a .0) in

@@ -1,4 +1,4 @@
--- The months counted from March: the running sums of their lengths are (153 k + 2) / 5, which makes all that is said of months linear.
+-- The months counted from March: the days before them step by the months' lengths, and all that is said of months is linear.
 -- Assumes nothing.
 use mathlib.Core.Bool.{Bool, true, false, cond, _&&_, and-eq-true-iff}
 use mathlib.Core.Logic.{_⊎_, inl, inr}
@@ -6,8 +6,9 @@ use mathlib.Core.Path.{_≡_, refl, ap, _∙_}
 use Prim.Native.Nat.{ℕ, zero, suc, _+_, _*_, _-_, _/_, _%_, _≤_, _<_}
 use native.Mathlib.Omega.{arith}
 use lib.Dec.{eqb, ltb}
+use lib.ListN.{getD}
 use borrow.Author.Tests.{ltb-true, ltb-false, eqb-true, eqb-false, ne-eqb, lt-ltb, le-ltb}
-use Rattle.civil.specs.Calendar.{leap, monthDays}
+use Rattle.civil.specs.Calendar.{lengths, leap, monthDays}
 use Rattle.civil.specs.Serial.{place, marchYear, before, yearDay}
 use Rattle.civil.proofs.Years.{unit}
 
@@ -27,9 +28,9 @@ below (suc n) f e k h = go (eqb k n) refl (below n f (both .0) k)
     go true i r = ap f (eqb-true k n i) ∙ both .1
     go false i r = r (omega (arith, eqb-false k n i))
 
-pub before-rule : (k : ℕ) → k < 12 → before k ≡ (153 * k + 2) / 5
-unfolding before
-before-rule k h = eqb-true _ _ (below 12 (λ (n : ℕ). eqb (before n) ((153 * n + 2) / 5)) refl k h)
+-- the steps of the days before the months are the months' lengths, from March to January: by one test over the eleven steps
+pub month-steps : (k : ℕ) → k < 11 → before (suc k) ≡ before k + getD lengths ((k + 2) % 12) 0
+month-steps k h = eqb-true _ _ (below 11 (λ (n : ℕ). eqb (before (suc n)) (before n + getD lengths ((n + 2) % 12) 0)) refl k h)
 
 pub february : (y : ℕ) → monthDays y 2 ≡ 28 + unit (leap y)
 unfolding monthDays
@@ -41,15 +42,10 @@ unit-small false = omega arith
 
 -- any other month ends where the next begins
 pub month-length : (y m : ℕ) → 1 ≤ m → m ≤ 12 → (m ≡ 2 → ⊥) → before (suc (place m)) ≡ before (place m) + monthDays y m
-unfolding before monthDays
+unfolding monthDays
 month-length y m h k n =
     let e : (place m + 2) % 12 ≡ m - 1 = omega arith in
-    rw (ne-eqb m 2 n, e) (omega arith)
-
--- the same by the rule
-month-rule : (y m : ℕ) → 1 ≤ m → m ≤ 12 → (m ≡ 2 → ⊥) → (153 * suc (place m) + 2) / 5 ≡ (153 * place m + 2) / 5 + monthDays y m
-month-rule y m h k n =
-    omega (arith, month-length y m h k n, before-rule (place m) (omega arith), before-rule (suc (place m)) (omega arith))
+    rw (ne-eqb m 2 n) (omega (arith, rw e at (month-steps (place m) (omega arith))))
 
 -- the place of the month that has the day n of the year from March on
 abbrev pub placeAt : ℕ → ℕ
@@ -63,33 +59,29 @@ pub record InMonth (y m d : ℕ) : Type 0 where
   pub found : placeAt (yearDay m d) ≡ place m
 
 pub in-month : (y m d : ℕ) → 1 ≤ m → m ≤ 12 → 1 ≤ d → d ≤ monthDays y m → InMonth y m d
-unfolding before
 in-month y m d h k i j = go (eqb m 2) refl
   where
     go : (t : Bool) → eqb m 2 ≡ t → InMonth y m d
     go true e =
         let two : m ≡ 2 = eqb-true m 2 e in
         let l : d ≤ 28 + unit (leap y) = rw (two, february y) at j in
-        let b : before (place m) ≡ 337 = rw two in
         let u = unit-small (leap y) in
         record { small = omega arith; inside = omega arith; other = λ n. absurd (n two); found = omega arith }
     go false e =
         let n : m ≡ 2 → ⊥ = eqb-false m 2 e in
         let p : place m < 11 = omega arith in
-        let b : before (place m) ≡ (153 * place m + 2) / 5 = before-rule (place m) (omega arith) in
-        let r = month-rule y m h k n in
-        let f = by-place (place m) (before (place m)) (monthDays y m) p b r j in
+        let f = by-place (place m) (monthDays y m) p (month-length y m h k n) j in
         record { small = f .0; inside = omega arith; other = λ n. f .1 .0; found = f .1 .1 }
       where
-        by-place : (a b l : ℕ) → a < 11 → b ≡ (153 * a + 2) / 5 → (153 * suc a + 2) / 5 ≡ (153 * a + 2) / 5 + l → d ≤ l → (d ≤ 31) × ((b + (d - 1) < 337) × (placeAt (b + (d - 1)) ≡ a))
-        by-place a b l p e r j = omega arith
+        by-place : (a l : ℕ) → a < 11 → before (suc a) ≡ before a + l → d ≤ l → (d ≤ 31) × ((before a + (d - 1) < 337) × (placeAt (before a + (d - 1)) ≡ a))
+        by-place a l p r j = omega arith
 
 pub month-long : (y m : ℕ) → 1 ≤ m → m ≤ 12 → 28 ≤ monthDays y m
 month-long y m h k = go (eqb m 2) refl
   where
     go : (t : Bool) → eqb m 2 ≡ t → 28 ≤ monthDays y m
     go true e = rw (eqb-true m 2 e, february y) (omega arith)
-    go false e = omega (arith, month-rule y m h k (eqb-false m 2 e))
+    go false e = omega (arith, month-length y m h k (eqb-false m 2 e))
 
 -- the next month begins where this one ends, after February with another year
 pub next-month : (y m : ℕ) → 1 ≤ m → m < 12 → (m ≡ 2) ⊎ ((marchYear y (m + 1) ≡ marchYear y m) × (before (place (m + 1)) ≡ before (place m) + monthDays y m))

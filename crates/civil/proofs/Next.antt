@@ -3,15 +3,15 @@
 use mathlib.Core.Bool.{Bool, true, false, cond, _&&_, and-eq-true-iff, false≢true}
 use mathlib.Core.Logic.{⊎-elim}
 use mathlib.Core.Path.{_≡_, refl, sym, ap, _∙_, subst}
-use Prim.Native.Nat.{ℕ, zero, suc, _+_, _*_, _-_, _/_, _≤_, _<_}
+use Prim.Native.Nat.{ℕ, zero, suc, _+_, _*_, _-_, _≤_, _<_}
 use native.Mathlib.Omega.{arith}
 use lib.Dec.{ltb, eqb, lit≤}
 use borrow.Author.Tests.{ltb-true, ltb-false, eqb-true, lt-ltb, le-ltb, eq-eqb}
 use Rattle.civil.specs.declared.Date.{Date}
 use Rattle.civil.specs.Calendar.{leap, monthDays, lastJulian, firstGregorian, sameDate, next, dateOn}
-use Rattle.civil.specs.Serial.{place, yearStart, before, gregorian, serialOf, epochSerial, lastJulianStamp}
+use Rattle.civil.specs.Serial.{place, yearStart, gregorian, serialOf, epochSerial, lastJulianStamp}
 use Rattle.civil.proofs.Years.{unit, Keeps, keeps-julian, keeps-gregorian}
-use Rattle.civil.proofs.Months.{before-rule, unit-small, february, month-long, next-month}
+use Rattle.civil.proofs.Months.{unit-small, february, month-long, next-month}
 use Rattle.civil.proofs.Dates.{Fits, Real, yearOf, dayOf, stampOf, months, year-long, october}
 
 pub same-date : {x z : Date} → x .year ≡ z .year → x .month ≡ z .month → x .day ≡ z .day → x ≡ z
@@ -39,12 +39,9 @@ keeps x r = go (calendar x) refl
     m : 12 * yearOf x + place (x .month) + 3 ≡ 12 * (x .year + 400) + x .month
     m = months x (r .fits)
 
-    b : before (place (x .month)) ≡ (153 * place (x .month) + 2) / 5
-    b = before-rule (place (x .month)) (omega arith)
-
     go : (g : Bool) → calendar x ≡ g → Keeps g (x .year)
     go true e = keeps-gregorian (x .year) (omega (arith, ltb-true lastJulianStamp (stampOf x) e, m, year-long x (r .fits), r .fits))
-    go false e = keeps-julian (x .year) (omega (arith, ltb-false lastJulianStamp (stampOf x) e, m, b, r .fits))
+    go false e = keeps-julian (x .year) (omega (arith, ltb-false lastJulianStamp (stampOf x) e, m, r .fits))
 
 -- two stamps on one side of the gap
 one-side : (s t : ℕ) → (lastJulianStamp < s → lastJulianStamp < t) → (s ≤ lastJulianStamp → t ≤ lastJulianStamp) → ltb lastJulianStamp t ≡ ltb lastJulianStamp s
@@ -67,7 +64,7 @@ module _ (x : Date) (r : Real x) where
 
   -- from 4 to 15 October 1582
   over-the-gap : x ≡ lastJulian → Follows x firstGregorian
-  unfolding serialOf before monthDays
+  unfolding serialOf monthDays
   over-the-gap e =
       record {
         real = record { fits = record { from-one = lit≤ tt; to-twelve = lit≤ tt; first = lit≤ tt; final = lit≤ tt }; kept = λ k. lit≤ tt };
@@ -96,7 +93,7 @@ module _ (x : Date) (r : Real x) where
 
   -- from February's last day to 1 March
   into-march : x .month ≡ 2 → monthDays (x .year) (x .month) ≤ x .day → Follows x (record { year = x .year; month = 3; day = 1 })
-  unfolding serialOf before
+  unfolding serialOf
   into-march e k =
       let u = unit-small (leap (x .year)) in
       let l : x .day ≡ 28 + unit (leap (x .year)) = omega (arith, rw (e, february (x .year)) at k, rw (e, february (x .year)) at (f .final)) in
@@ -122,7 +119,7 @@ module _ (x : Date) (r : Real x) where
 
   -- the first of the next year
   year-over : monthDays (x .year) (x .month) ≤ x .day → 12 ≤ x .month → Follows x (record { year = x .year + 1; month = 1; day = 1 })
-  unfolding before monthDays
+  unfolding monthDays
   year-over k m =
       let e : x .month ≡ 12 = omega (arith, f .to-twelve) in
       let d : x .day ≡ 31 = omega (arith, rw e at k, rw e at (f .final)) in
@@ -163,7 +160,7 @@ pub record DayIs (n : ℕ) (x : Date) : Type 0 where
 
 -- day n's date is a date, and has day n's serial number
 pub date-counts : (n : ℕ) → DayIs n (dateOn n)
-unfolding dateOn serialOf before monthDays
+unfolding dateOn serialOf monthDays
 date-counts zero =
     record {
       real = record { fits = record { from-one = lit≤ tt; to-twelve = lit≤ tt; first = lit≤ tt; final = lit≤ tt }; kept = λ k. absurd (omega arith) };

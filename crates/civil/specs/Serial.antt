@@ -1,12 +1,10 @@
 -- The serial numbers behind the code, by closed rules. Only private contracts speak of them; that they follow the calendar is proved.
 -- Assumes nothing.
 use mathlib.Core.Bool.{Bool, true, false, cond}
-use Prim.Native.Nat.{ℕ, zero, suc, _+_, _*_, _-_, _/_, _%_, _≤_, _<_}
+use Prim.Native.Nat.{ℕ, _+_, _*_, _-_, _/_, _%_, _≤_, _<_}
 use lib.Dec.{ltb}
-use lib.ListN.{getD}
 use Rattle.days.specs.Days.{epochJulianDay}
 use Rattle.civil.specs.declared.Date.{Date}
-use Rattle.civil.specs.Calendar.{lengths}
 
 -- a month's place, counted from March as 0
 abbrev pub place : ℕ → ℕ
@@ -26,10 +24,9 @@ pub record InYear (g : Bool) (s u : ℕ) : Type 0 where
   pub from : yearStart g u ≤ s
   pub until : s < yearStart g (u + 1)
 
--- the days from 1 March to a month: the running sums of the months' lengths
-unfoldable pub before : ℕ → ℕ
-before zero = 0
-before (suc k) = before k + getD lengths ((k + 2) % 12) 0
+-- the days from 1 March to the month with place k: five months have 153 days, and the steps are the months' lengths (the law `month-steps`)
+abbrev pub before : ℕ → ℕ
+before k = (153 * k + 2) / 5
 
 -- the day, from 0, of the year that began in March
 abbrev pub yearDay : ℕ → ℕ → ℕ

@@ -30,9 +30,6 @@ const NO_DATE: DateAnswer = DateAnswer {
     },
 };
 
-// The days from 1 March to each month, March first: running sums.
-const BEFORE: [u32; 12] = [0, 31, 61, 92, 122, 153, 184, 214, 245, 275, 306, 337];
-
 // Serial numbers count the days from 1 March 400 Julian years before that of year 0: the Julian Day Number of serial number 0.
 const SERIAL_START: u32 = 1575018;
 
@@ -44,12 +41,12 @@ const GREGORIAN_SERIAL: u64 = 724143;
 // 4 October 1582, the day 217 of the year 1982, in the dates' order: no year has 400 days.
 const LAST_JULIAN_STAMP: u64 = 400 * 1982 + 217;
 
-// The one place where the months' days are summed up; months are counted from March as 0.
+// The days from 1 March to a month; months are counted from March as 0. Five months in a row have 153 days (docs/rules.md).
 fn days_before(month: usize) -> u32
     requires { ⌜ month < 12 ⌝ }
     ensures { λ r. ⌜ (r ≡ before month) × (r ≤ 337) ⌝ }
 {
-    BEFORE[month]
+    ((153 * month + 2) / 5) as u32
 }
 
 fn place_of(month: u32) -> usize
