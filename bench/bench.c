@@ -33,6 +33,12 @@ static void all_days(number f) {
     sink += sum;
 }
 
+/* A Saka date for a number, and for every second one an extra month still to come. */
+static uint32_t saka(uint32_t n) { return graha_saka_day(1442 + n % 1100, n % 12, n % 30, n % 7); }
+static uint32_t saka_plain(uint32_t n) { return plain_saka_day(1442 + n % 1100, n % 12, n % 30, n % 7); }
+static uint32_t pending(uint32_t n) { return graha_saka_pending_day(1442 + n % 1100, n % 12, n % 30, n % 7, n % 2); }
+static uint32_t pending_plain(uint32_t n) { return plain_saka_pending_day(1442 + n % 1100, n % 12, n % 30, n % 7, n % 2); }
+
 typedef struct {
     const char *name;
     void (*search)(uint32_t, size_t);
@@ -85,7 +91,7 @@ static void *calendar(void *unused) {
     sink += graha_date_result(1612, 5, 14) + graha_date_day(1612, 5, 14) + graha_day_result(7) + graha_day_year(7) + graha_day_month(7) +
             graha_day_of_month(7) + graha_day_cycle(7) + graha_day_within(7) + graha_day_weekday(7) + graha_pair_result(0, 7) + graha_pair_day(0, 7) +
             graha_next_result(0, 7) + graha_next_cycle(0, 7) + graha_next_within(0, 7) + graha_saka_result(1534, 1, 14, 0) +
-            graha_saka_day(1534, 1, 14, 0);
+            graha_saka_day(1534, 1, 14, 0) + graha_saka_pending_result(1555, 0, 0, 4, 1) + graha_saka_pending_day(1555, 0, 0, 4, 1);
     return unused;
 }
 
@@ -146,6 +152,8 @@ int main(int count, char **word) {
     pair("nakshatra", call_job(graha_nakshatra), call_job(plain_nakshatra), 1.1);
     pair("yoga", call_job(graha_yoga), call_job(plain_yoga), 1.1);
     pair("karana", call_job(graha_karana), call_job(plain_karana), 1.1);
+    pair("Saka date", call_job(saka), call_job(saka_plain), 1.1);
+    pair("Saka date, an extra month pending or not", call_job(pending), call_job(pending_plain), 1.1);
     size_t same = needed(SPARSE);
     ours(SPARSE, ROOM);
     plain(SPARSE, ROOM);

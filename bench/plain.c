@@ -43,6 +43,23 @@ uint32_t plain_karana(uint32_t day) {
     return h == 0 ? 11 : h <= 56 ? (h - 1) % 7 + 1 : h - 49;
 }
 
+static inline uint32_t saka_day(uint32_t year, uint32_t months, uint32_t tithis, uint32_t weekday, uint32_t pending) {
+    if (months > 11 || tithis > 29 || weekday > 6 || year < 1442 || year > 2541) return 0;
+    uint32_t cycle = (year - 1442) / 11, mean = 12 * ((year - 1442) % 11) + months, extra = (mean + 2 * cycle + 10) / 33;
+    if (extra < pending) return 0;
+    uint32_t elapsed = 30 * (mean + extra - pending) + tithis + cycle / 6;
+    uint32_t day = 4016 * cycle + elapsed - elapsed / 64;
+    uint32_t ahead = (weekday + 7 - day % 7) % 7;
+    if (ahead == 1) day++;
+    else if (ahead == 6) day--;
+    else if (ahead) return 0;
+    return day > LAST ? 0 : day; /* day -1 wraps and is above the last */
+}
+uint32_t plain_saka_day(uint32_t year, uint32_t months, uint32_t tithis, uint32_t weekday) { return saka_day(year, months, tithis, weekday, 0); }
+uint32_t plain_saka_pending_day(uint32_t year, uint32_t months, uint32_t tithis, uint32_t weekday, uint32_t pending) {
+    return saka_day(year, months, tithis, weekday, pending != 0);
+}
+
 static uint32_t refusal(uint32_t first, uint32_t last, uint32_t start, uint32_t width, uint32_t weekday) {
     if (first > LAST || last > LAST) return 2;
     if (last < first) return 5;

@@ -17,6 +17,8 @@ uint32_t plain_tithi(uint32_t day);
 uint32_t plain_nakshatra(uint32_t day);
 uint32_t plain_yoga(uint32_t day);
 uint32_t plain_karana(uint32_t day);
+uint32_t plain_saka_day(uint32_t year, uint32_t months, uint32_t tithis, uint32_t weekday);
+uint32_t plain_saka_pending_day(uint32_t year, uint32_t months, uint32_t tithis, uint32_t weekday, uint32_t pending);
 
 typedef struct {
     uint32_t refusal, length, looked;

@@ -1,4 +1,4 @@
-/* A small host program: it dates a day, prints its places, and looks for the Mondays with the Sun in the first degree. */
+/* A small host program: it dates a day, prints its places, dates a Saka lunar date, and looks for the Mondays with the Sun in the first degree. */
 #include <stdio.h>
 #include <stdlib.h>
 
@@ -47,6 +47,15 @@ int main(void)
     uint32_t day = graha_date_day(1612, 5, 14);
     print_date(day);
     print_places(day);
+
+    /* The first day of Saka 1555, a Friday. That year had an extra month, which was still to come. */
+    result = graha_saka_pending_result(1555, 0, 0, 4, 1);
+    if (result != GRAHA_ACCEPTED) {
+        fprintf(stderr, "host: the Saka date is refused: %u\n", (unsigned)result);
+        return 1;
+    }
+    printf("Saka 1555, no month and no tithi elapsed:\n");
+    print_date(graha_saka_pending_day(1555, 0, 0, 4, 1));
 
     uint8_t two_days[8];
     result = search(two_days, sizeof two_days);

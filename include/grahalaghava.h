@@ -25,7 +25,8 @@ enum {
     GRAHA_NO_SUCH_WEEKDAY = 4,   /* none of a Saka date's three days has the weekday */
     GRAHA_LAST_BEFORE_FIRST = 5, /* a search whose last day is before its first */
     GRAHA_BAD_CONDITION = 6,     /* a search's weekday, arc start or arc width */
-    GRAHA_LIST_TOO_SHORT = 7     /* more matching days than the list has entries */
+    GRAHA_LIST_TOO_SHORT = 7,    /* more matching days than the list has entries */
+    GRAHA_NO_EXTRA_MONTH = 8     /* a Saka date's extra month is still to come, and none is reckoned */
 };
 
 /* A civil date (year from 0 up, month 1 to 12, day from 1) to its day: Julian up to 4 October 1582, Gregorian from 15 October 1582.
@@ -58,6 +59,10 @@ uint32_t graha_next_within(uint32_t cycle, uint32_t within);
  * Result 3: months, tithis or weekday out of range; 2: the year or the day found; 4: none of the three days has the weekday. */
 uint32_t graha_saka_result(uint32_t year, uint32_t months, uint32_t tithis, uint32_t weekday);
 uint32_t graha_saka_day(uint32_t year, uint32_t months, uint32_t tithis, uint32_t weekday);
+/* The same where the year may have an extra month (adhikamasa) that is still to come on the date: any pending but 0 says that it has, and
+ * one is taken from the extra months reckoned. Result 8, after 2 for the year and before 4: none is reckoned. */
+uint32_t graha_saka_pending_result(uint32_t year, uint32_t months, uint32_t tithis, uint32_t weekday, uint32_t pending);
+uint32_t graha_saka_pending_day(uint32_t year, uint32_t months, uint32_t tithis, uint32_t weekday, uint32_t pending);
 
 /* A day's nine mean places. */
 uint32_t graha_mean_sun(uint32_t day);

@@ -23,6 +23,21 @@ unsafe extern "C" {
 
     pub safe fn graha_saka_result(year: u32, months: u32, tithis: u32, weekday: u32) -> u32;
     pub safe fn graha_saka_day(year: u32, months: u32, tithis: u32, weekday: u32) -> u32;
+    /// Any `pending` but 0 sets the mark.
+    pub safe fn graha_saka_pending_result(
+        year: u32,
+        months: u32,
+        tithis: u32,
+        weekday: u32,
+        pending: u32,
+    ) -> u32;
+    pub safe fn graha_saka_pending_day(
+        year: u32,
+        months: u32,
+        tithis: u32,
+        weekday: u32,
+        pending: u32,
+    ) -> u32;
 
     pub safe fn graha_mean_sun(day: u32) -> u32;
     pub safe fn graha_mean_moon(day: u32) -> u32;

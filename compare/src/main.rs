@@ -1,4 +1,4 @@
-//! The independent second program: it reckons everything anew from paper 01 (`reference`) and
+//! The independent second program: it reckons everything anew from the papers (`reference`) and
 //! compares each answer of the proved programs with its own (`runs`). README.md says how.
 
 mod calls;

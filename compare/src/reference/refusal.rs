@@ -1,4 +1,4 @@
-//! Paper 01, "Refusals by number".
+//! Paper 01, "Refusals by number"; and those of paper 02's requests.
 
 pub const NO_SUCH_DATE: u32 = 1;
 pub const OUT_OF_RANGE: u32 = 2;
@@ -7,6 +7,8 @@ pub const WEEKDAY_DISAGREES: u32 = 4;
 pub const LAST_BEFORE_FIRST: u32 = 5;
 pub const BAD_CONDITION: u32 = 6;
 pub const LIST_TOO_SHORT: u32 = 7;
+/// L4.
+pub const NO_EXTRA_MONTH: u32 = 8;
 
 /// What a rule gives: its values, or the number of its refusal.
 pub type Answer<T> = Result<T, u32>;

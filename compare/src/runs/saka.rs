@@ -1,5 +1,6 @@
-//! The calls that take a Saka date: all from year 1441 to 2542, months, tithis and weekdays one
-//! past their ranges included, and the edges of 32 bits.
+//! The calls that take a Saka date, with the mark of a month still to come and without: all from
+//! year 1441 to 2542, months, tithis and weekdays one past their ranges included, and the edges of
+//! 32 bits.
 
 use crate::calls::*;
 use crate::checks::Checks;
@@ -9,15 +10,24 @@ use crate::reference::saka::SakaDate;
 
 use super::WIDTH_EDGES;
 
-fn compare(checks: &mut Checks, date: SakaDate) {
-    let SakaDate {
-        year,
-        months,
-        tithis,
-        weekday,
-    } = date;
+/// The calls without a mark, and those with it for each number given: 0 is no mark, any other one.
+fn compare(
+    checks: &mut Checks,
+    [year, months, tithis, weekday]: [u32; 4],
+    marks: impl IntoIterator<Item = u32>,
+) {
+    let [unmarked, marked] = [false, true].map(|pending| {
+        let date = SakaDate {
+            year,
+            months,
+            tithis,
+            weekday,
+            pending,
+        };
+        (date, date.day())
+    });
+    let (date, day) = unmarked;
     let input = || format!("{date:?}");
-    let day = date.day();
     checks.same(
         "graha_saka_result",
         input,
@@ -30,21 +40,30 @@ fn compare(checks: &mut Checks, date: SakaDate) {
         day.unwrap_or(0),
         graha_saka_day(year, months, tithis, weekday),
     );
+    for mark in marks {
+        let (date, day) = if mark == 0 { unmarked } else { marked };
+        let input = || format!("{date:?}, by the number {mark}");
+        checks.same(
+            "graha_saka_pending_result",
+            input,
+            result_number(&day),
+            graha_saka_pending_result(year, months, tithis, weekday, mark),
+        );
+        checks.same(
+            "graha_saka_pending_day",
+            input,
+            day.unwrap_or(0),
+            graha_saka_pending_day(year, months, tithis, weekday, mark),
+        );
+    }
 }
 
 fn compare_year(checks: &mut Checks, year: u32) {
     for months in 0..=12 {
         for tithis in 0..=30 {
             for weekday in 0..=7 {
-                compare(
-                    checks,
-                    SakaDate {
-                        year,
-                        months,
-                        tithis,
-                        weekday,
-                    },
-                );
+                let marks = [0, 1, 2, u32::MAX];
+                compare(checks, [year, months, tithis, weekday], marks);
             }
         }
     }
@@ -69,14 +88,7 @@ pub fn run(checks: &mut Checks) {
         };
         let (months, tithis, weekday) = (at_edge(12), at_edge(30), at_edge(7));
         let year = 1442_u32.wrapping_add(at_edge(1100));
-        compare(
-            checks,
-            SakaDate {
-                year,
-                months,
-                tithis,
-                weekday,
-            },
-        );
+        let marks = WIDTH_EDGES.into_iter().chain([0]);
+        compare(checks, [year, months, tithis, weekday], marks);
     }
 }

@@ -1,5 +1,6 @@
-//! The cases that paper 01 states itself, starred or not, held against the second program alone,
-//! before it is compared with anything: so that both programs are held to the paper.
+//! The cases that paper 01 states itself, starred or not, and those of paper 02's requests, held
+//! against the second program alone, before it is compared with anything: so that both programs
+//! are held to the papers.
 
 use crate::checks::Checks;
 use crate::reference::almanac::Almanac;
@@ -31,6 +32,7 @@ fn dates(checks: &mut Checks, almanac: &Almanac) {
         ((13, 10, 2619), Ok(401599)),
         ((14, 10, 2619), Err(2)),
         ((14, 5, 1612), Ok(33649)),
+        ((11, 3, 1633), Ok(41255)),
     ];
     for ((day, month, year), expected) in cases {
         let date = Date { year, month, day };
@@ -137,21 +139,29 @@ fn places(checks: &mut Checks, almanac: &Almanac) {
     );
 }
 
-/// "Days on both sides", the Saka dates.
+/// "Days on both sides", the Saka dates; and document 000's example of a year whose extra month is
+/// still ahead, with each refusal of a date that has the mark.
 fn saka_dates(checks: &mut Checks) {
     let cases = [
-        ((1534, 1, 14, MONDAY), Ok(33649)),
-        ((1442, 0, 0, MONDAY), Ok(0)),
-        ((1442, 0, 0, SUNDAY), Err(2)),
-        ((1442, 0, 0, TUESDAY), Ok(1)),
-        ((1442, 0, 0, WEDNESDAY), Err(4)),
+        ((1534, 1, 14, MONDAY, false), Ok(33649)),
+        ((1442, 0, 0, MONDAY, false), Ok(0)),
+        ((1442, 0, 0, SUNDAY, false), Err(2)),
+        ((1442, 0, 0, TUESDAY, false), Ok(1)),
+        ((1442, 0, 0, WEDNESDAY, false), Err(4)),
+        ((1555, 0, 0, FRIDAY, true), Ok(41255)),
+        ((1555, 0, 0, MONDAY, true), Err(4)),
+        ((1442, 0, 0, MONDAY, true), Err(8)),
+        ((1442, 0, 0, WEDNESDAY, true), Err(8)),
+        ((1441, 0, 0, MONDAY, true), Err(2)),
+        ((1441, 12, 0, MONDAY, true), Err(3)),
     ];
-    for ((year, months, tithis, weekday), expected) in cases {
+    for ((year, months, tithis, weekday, pending), expected) in cases {
         let date = SakaDate {
             year,
             months,
             tithis,
             weekday,
+            pending,
         };
         checks.same(
             "the day of a Saka date",
@@ -159,6 +169,29 @@ fn saka_dates(checks: &mut Checks) {
             expected,
             date.day(),
         );
+    }
+}
+
+/// With the mark the reckoned day is a month, 29 or 30 days, earlier.
+fn a_month_earlier(checks: &mut Checks) {
+    for year in 1442..=2541 {
+        for (months, tithis) in (0..12).flat_map(|months| (0..30).map(move |t| (months, t))) {
+            let [later, earlier] = [false, true].map(|pending| {
+                let date = SakaDate {
+                    year,
+                    months,
+                    tithis,
+                    weekday: MONDAY,
+                    pending,
+                };
+                date.reckoned_day()
+            });
+            if let (Ok(later), Ok(earlier)) = (later, earlier) {
+                let input = || format!("year {year}, months {months}, tithis {tithis}");
+                let month = [29, 30].contains(&(later - earlier));
+                checks.same("the mark takes a month", input, true, month);
+            }
+        }
     }
 }
 
@@ -247,6 +280,7 @@ pub fn run(checks: &mut Checks, almanac: &Almanac) {
     every_day(checks, almanac);
     places(checks, almanac);
     saka_dates(checks);
+    a_month_earlier(checks);
     search(checks, almanac);
     sheet(checks, almanac);
     pages(checks, almanac);

@@ -1,4 +1,4 @@
--- Paper 01's refusals by number. Result 0 means accepted.
+-- The refusals by number: paper 01's, and from 8 on paper 02's. Result 0 means accepted.
 -- Assumes nothing.
 use Prim.Native.Nat.{ℕ}
 
@@ -25,3 +25,7 @@ badCondition = 6
 
 abbrev pub listTooShort : ℕ
 listTooShort = 7
+
+-- of a Saka date: an extra month is still to come, and the reckoning has none
+abbrev pub noExtraMonth : ℕ
+noExtraMonth = 8

@@ -1,4 +1,4 @@
-// Paper 01's refusals by number.
+// The refusals by number: paper 01's, and from 8 on paper 02's.
 pub const NONE: u32 = 0;
 
 pub const NO_SUCH_DATE: u32 = 1;
@@ -14,3 +14,5 @@ pub const LAST_BEFORE_FIRST: u32 = 5;
 pub const BAD_CONDITION: u32 = 6;
 
 pub const LIST_TOO_SHORT: u32 = 7;
+
+pub const NO_EXTRA_MONTH: u32 = 8;

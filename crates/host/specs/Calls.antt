@@ -1,8 +1,8 @@
 -- What the calls take and hand back as plain numbers: each number of an answer has a call of its own.
 -- Assumes nothing.
-use mathlib.Core.Bool.{cond}
+use mathlib.Core.Bool.{Bool, cond, not}
 use Prim.Native.Nat.{ℕ}
-use lib.Dec.{leb}
+use lib.Dec.{leb, eqb}
 use Rattle.days.specs.declared.Day.{Day}
 use Rattle.days.specs.Days.{lastDay, pairAt}
 use Rattle.civil.specs.declared.Date.{Date}
@@ -15,8 +15,13 @@ dateFrom y m d = record { year = y; month = m; day = d }
 abbrev pub pairFrom : ℕ → ℕ → Day
 pairFrom C A = record { cycle = C; within = A }
 
-abbrev pub lunarDateFrom : ℕ → ℕ → ℕ → ℕ → LunarDate
-lunarDateFrom y m t w = record { year = y; months = m; tithis = t; weekday = w }
+-- the last is paper 02's mark
+abbrev pub lunarDateFrom : ℕ → ℕ → ℕ → ℕ → Bool → LunarDate
+lunarDateFrom y m t w p = record { year = y; months = m; tithis = t; weekday = w; «leap_month_pending» = p }
+
+-- any number but 0 sets the mark
+abbrev pub markFrom : ℕ → Bool
+markFrom n = not (eqb n 0)
 
 -- a number of the day with the number n; 0 where there is no such day
 unfoldable pub onNumber : (Day → ℕ) → ℕ → ℕ

@@ -5,11 +5,12 @@ use days::Day;
 use days::DayAnswer;
 use days::NumberAnswer;
 use saka::LunarDate;
+ghost use mathlib.Core.Bool.{false};
 ghost use mathlib.Core.Path.{_≡_};
 ghost use Rattle.days.specs.Days.{dayOf, numberOf, nextOf};
 ghost use Rattle.civil.specs.Answers.{dayOfDate, dateOfDay};
 ghost use Rattle.saka.specs.LunarDays.{lunarDay};
-ghost use Rattle.host.specs.Calls.{dateFrom, pairFrom, lunarDateFrom};
+ghost use Rattle.host.specs.Calls.{dateFrom, pairFrom, lunarDateFrom, markFrom};
 ghost use Rattle.host.specs.Parts.{IsNumber, IsDay, IsDate};
 
 // The libraries' answers, said number by number, for the calls below.
@@ -43,14 +44,21 @@ fn next_pair(cycle: u32, within: u32) -> DayAnswer
     Day { cycle, within }.next()
 }
 
-fn day_of_lunar_date(year: u32, months: u32, tithis: u32, weekday: u32) -> NumberAnswer
-    ensures { λ r. ⌜ IsNumber r (lunarDay (lunarDateFrom year months tithis weekday)) ⌝ }
+fn day_of_lunar_date(
+    year: u32,
+    months: u32,
+    tithis: u32,
+    weekday: u32,
+    pending: bool,
+) -> NumberAnswer
+    ensures { λ r. ⌜ IsNumber r (lunarDay (lunarDateFrom year months tithis weekday pending)) ⌝ }
 {
     saka::day_of(LunarDate {
         year,
         months,
         tithis,
         weekday,
+        leap_month_pending: pending,
     })
 }
 
@@ -147,14 +155,41 @@ pub extern "C" fn graha_next_within(cycle: u32, within: u32) -> u32
 
 #[no_mangle]
 pub extern "C" fn graha_saka_result(year: u32, months: u32, tithis: u32, weekday: u32) -> u32
-    ensures { λ r. ⌜ r ≡ lunarDay (lunarDateFrom year months tithis weekday) .refusal ⌝ }
+    ensures { λ r. ⌜ r ≡ lunarDay (lunarDateFrom year months tithis weekday false) .refusal ⌝ }
 {
-    day_of_lunar_date(year, months, tithis, weekday).refusal
+    day_of_lunar_date(year, months, tithis, weekday, false).refusal
 }
 
 #[no_mangle]
 pub extern "C" fn graha_saka_day(year: u32, months: u32, tithis: u32, weekday: u32) -> u32
-    ensures { λ r. ⌜ r ≡ lunarDay (lunarDateFrom year months tithis weekday) .number ⌝ }
+    ensures { λ r. ⌜ r ≡ lunarDay (lunarDateFrom year months tithis weekday false) .number ⌝ }
 {
-    day_of_lunar_date(year, months, tithis, weekday).number
+    day_of_lunar_date(year, months, tithis, weekday, false).number
+}
+
+// Any `pending` but 0 says that this year's extra month is still to come.
+#[no_mangle]
+pub extern "C" fn graha_saka_pending_result(
+    year: u32,
+    months: u32,
+    tithis: u32,
+    weekday: u32,
+    pending: u32,
+) -> u32
+    ensures { λ r. ⌜ r ≡ lunarDay (lunarDateFrom year months tithis weekday (markFrom pending)) .refusal ⌝ }
+{
+    day_of_lunar_date(year, months, tithis, weekday, pending != 0).refusal
+}
+
+#[no_mangle]
+pub extern "C" fn graha_saka_pending_day(
+    year: u32,
+    months: u32,
+    tithis: u32,
+    weekday: u32,
+    pending: u32,
+) -> u32
+    ensures { λ r. ⌜ r ≡ lunarDay (lunarDateFrom year months tithis weekday (markFrom pending)) .number ⌝ }
+{
+    day_of_lunar_date(year, months, tithis, weekday, pending != 0).number
 }

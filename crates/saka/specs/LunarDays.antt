@@ -5,7 +5,7 @@ use mathlib.Core.List.{List, [], _∷_}
 use Prim.Native.Nat.{ℕ, _+_, _-_, _*_, _/_, _%_}
 use lib.Dec.{ltb, leb, eqb}
 use lib.IntN.{ℤ, pos, negsuc, predℤ}
-use Rattle.days.specs.Refusals.{outOfRange, badInput, noSuchWeekday}
+use Rattle.days.specs.Refusals.{accepted, outOfRange, badInput, noSuchWeekday, noExtraMonth}
 use Rattle.days.specs.Days.{cycleDays, lastDay, weekdayOn, theNumber, noNumber}
 use Rattle.days.specs.declared.NumberAnswer.{NumberAnswer}
 use Rattle.saka.specs.declared.LunarDate.{LunarDate}
@@ -31,25 +31,36 @@ cycleOf d = (d .year - firstYear) / 11
 abbrev pub meanMonths : LunarDate → ℕ
 meanMonths d = 12 * ((d .year - firstYear) % 11) + d .months
 
--- the extra months (adhikamāsa) that C cycles and M months bring
-unfoldable pub extraMonths : ℕ → ℕ → ℕ
-extraMonths C M = (M + 2 * C + 10) / 33
+-- the extra months (adhikamāsa) since the cycle's start: paper 01's quotient by 33
+unfoldable pub extraMonths : LunarDate → ℕ
+extraMonths d = (meanMonths d + 2 * cycleOf d + 10) / 33
 
--- TM: the lunar months since the cycle's start
-abbrev pub trueMonths : LunarDate → ℕ
-trueMonths d = meanMonths d + extraMonths (cycleOf d) (meanMonths d)
+-- paper 02's mark: this year's extra month is still to come
+abbrev pub leapMonthPending : LunarDate → Bool
+leapMonthPending d = d .«leap_month_pending»
+
+-- the extra months that have elapsed: with the mark the quotient is lessened by one, which 0 cannot be
+unfoldable pub elapsedExtraMonths : LunarDate → NumberAnswer
+elapsedExtraMonths d =
+    cond (leapMonthPending d)
+    (cond (eqb (extraMonths d) 0) (noNumber noExtraMonth) (theNumber (extraMonths d - 1)))
+    (theNumber (extraMonths d))
+
+-- TM: the lunar months since the cycle's start, E extra ones among them
+abbrev pub trueMonths : LunarDate → ℕ → ℕ
+trueMonths d E = meanMonths d + E
 
 -- H: the tithis since the cycle's start
-abbrev pub elapsedTithis : LunarDate → ℕ
-elapsedTithis d = 30 * trueMonths d + d .tithis + cycleOf d / 6
+abbrev pub elapsedTithis : LunarDate → ℕ → ℕ
+elapsedTithis d E = 30 * trueMonths d E + d .tithis + cycleOf d / 6
 
 -- A: the civil days since the cycle's start, one fewer for every 64 tithis; they may pass 4015
-abbrev pub civilDays : LunarDate → ℕ
-civilDays d = elapsedTithis d - elapsedTithis d / 64
+abbrev pub civilDays : LunarDate → ℕ → ℕ
+civilDays d E = elapsedTithis d E - elapsedTithis d E / 64
 
--- paper 01's reckoned day
-unfoldable pub reckonedDay : LunarDate → ℕ
-reckonedDay d = cycleDays * cycleOf d + civilDays d
+-- paper 01's reckoned day, with E extra months
+unfoldable pub reckonedDay : LunarDate → ℕ → ℕ
+reckonedDay d E = cycleDays * cycleOf d + civilDays d E
 
 -- the weekday of an integer day; day −1 is a Sunday
 abbrev pub integerWeekday : ℤ → ℕ
@@ -78,8 +89,18 @@ answerFrom (z ∷ _) = integerDay z
 unfoldable pub dayOn : ℕ → ℕ → NumberAnswer
 dayOn w n = answerFrom (havingWeekday w (threeDays n))
 
+-- an answer that is given where the test holds, and else refused
+abbrev pub provided : Bool → ℕ → NumberAnswer → NumberAnswer
+provided test refusal answer = cond test answer (noNumber refusal)
+
+-- paper 01's rule over the extra months. The refusals in their order: 3, the year's 2, that of the extra months (8), 4, the day's 2
+unfoldable pub lunarDayWith : NumberAnswer → LunarDate → NumberAnswer
+lunarDayWith extra d =
+    provided (fieldsInRange d) badInput
+    (provided (yearInRange (d .year)) outOfRange
+    (provided (eqb (extra .refusal) accepted) (extra .refusal)
+    (dayOn (d .weekday) (reckonedDay d (extra .number)))))
+
+-- a date's answer, with paper 02's mark and without
 unfoldable pub lunarDay : LunarDate → NumberAnswer
-lunarDay d =
-    cond (fieldsInRange d)
-    (cond (yearInRange (d .year)) (dayOn (d .weekday) (reckonedDay d)) (noNumber outOfRange))
-    (noNumber badInput)
+lunarDay d = lunarDayWith (elapsedExtraMonths d) d

@@ -7,7 +7,7 @@ use Rattle.integers.specs.Integers.{floorOver, reduced}
 use Rattle.civil.specs.Calendar.{leap, monthDays, lost, dateExists}
 use Rattle.civil.specs.Serial.{serialOf}
 use Rattle.civil.proofs.Laws.{counted, by-count}
-use Rattle.saka.specs.LunarDays.{lunarDay, fieldsInRange, yearInRange, extraMonths, reckonedDay, havingWeekday, integerDay, answerFrom, dayOn}
+use Rattle.saka.specs.LunarDays.{lunarDay, lunarDayWith, fieldsInRange, yearInRange, extraMonths, elapsedExtraMonths, reckonedDay, havingWeekday, integerDay, answerFrom, dayOn}
 use Rattle.longitudes.specs.Longitudes.{differenceOf, table, meanLongitude, longitudeAt, longitudesAt}
 use Rattle.longitudes.specs.Answers.{longitudesOf}
 use Rattle.panchanga.specs.TrueLongitudes.{bhuja, equation, signed, corrected, trueLongitude}
@@ -24,8 +24,8 @@ pub starred-hold : map (λ (c : Case). c .found) starred ≡ map (λ (c : Case).
 unfolding starred
 starred-hold =
     simp by-count
-    (unfold inRange dayOf floorOver reduced leap monthDays lost dateExists serialOf counted lunarDay fieldsInRange yearInRange
-    extraMonths reckonedDay havingWeekday integerDay answerFrom dayOn differenceOf table meanLongitude longitudeAt longitudesAt
+    (unfold inRange dayOf floorOver reduced leap monthDays lost dateExists serialOf counted lunarDay lunarDayWith fieldsInRange yearInRange
+    extraMonths elapsedExtraMonths reckonedDay havingWeekday integerDay answerFrom dayOn differenceOf table meanLongitude longitudeAt longitudesAt
     longitudesOf bhuja equation signed corrected trueLongitude karanaAfter trueSunAt trueMoonAt tithiAt nakshatraAt yogaAt karanaAt
     panchangaOf meets inArc arcsMet elementsMet askedInRange arcInRange arcsInRange conditionsInRange conditionsMet sunInArc nextDay
     refusalOf filtered daysFrom matchingDays visitedFrom visitedDays resultOf in refl)

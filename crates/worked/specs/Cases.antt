@@ -1,6 +1,6 @@
 -- The cases that paper 01 marks with a star ("Days on both sides"), in its order. Each has what the meanings give and, in the same order, what the paper says.
 -- Assumes nothing.
-use mathlib.Core.Bool.{true}
+use mathlib.Core.Bool.{true, false}
 use mathlib.Core.List.{List, [], _∷_, _++_}
 use Prim.Native.Nat.{ℕ, _-_}
 use lib.ListN.{length, replicate}
@@ -39,9 +39,9 @@ pair a = let d = dayOf (a .number) .day in a .refusal ∷ d .cycle ∷ d .within
 abbrev pub weekday : NumberAnswer → ℕ
 weekday a = weekdayOn (a .number)
 
--- the day of a Saka lunar date
+-- the day of a Saka lunar date, paper 02's mark not set
 abbrev pub saka : ℕ → ℕ → ℕ → ℕ → List ℕ
-saka year months tithis w = answer (lunarDay (record { year = year; months = months; tithis = tithis; weekday = w }))
+saka year months tithis w = answer (lunarDay (record { year = year; months = months; tithis = tithis; weekday = w; «leap_month_pending» = false }))
 
 -- true Sun, true Moon, tithi, nakshatra, yoga, karana
 abbrev pub elements : Panchanga → List ℕ

@@ -1,59 +1,62 @@
 -- `reckoned_day` meets its contract: a date in range keeps every sum small.
 use borrow.Author.Needs.{needs}
+use mathlib.Core.Path.{_≡_}
+use Prim.Native.Nat.{ℕ, _<_}
 use native.Mathlib.Omega.{arith}
+use mir.Val.{Fits}
+use mir.Syntax.{w32}
 use Rattle.saka.specs.LunarDays.{reckonedDay}
-use Rattle.saka.proofs.Bounds.{InRange, in-range}
+use Rattle.saka.proofs.Bounds.{InRange, in-range, reckoned}
 use Rattle.saka.proofs.reckoned_day.Statement.{statement}
 use Rattle.saka.proofs.reckoned_day.Tie as tie
 
 kept : (c : tie.Start) → InRange (c .args .date)
-kept c = in-range (c .args .date) (c .pre .0) (c .pre .1)
+kept c = in-range _ (c .pre .0) (c .pre .1 .0)
 
-sub-years : tie.Need-sub-years
-sub-years c = omega (arith, kept (c .before))
+small : (n m : ℕ) → n ≡ m → m < 1000000 → Fits w32 n
+small n m e h = omega arith
 
-mul-mean-months : tie.Need-mul-mean-months
-mul-mean-months c = search needs
+cycle-of-requires : tie.Need-cycle-of-requires
+cycle-of-requires c κs = search needs
 
-add-mean-months : tie.Need-add-mean-months
-add-mean-months c = omega (arith, kept (c .before .before))
-
-extra-months-requires : tie.Need-extra-months-requires
-extra-months-requires c κs = omega (arith, kept (c .before .before))
+mean-months-requires : tie.Need-mean-months-requires
+mean-months-requires c κs = search needs
 
 add-months : tie.Need-add-months
-add-months c = omega (arith, kept (c .before .before .before))
+add-months c = omega (arith, kept (c .before .before))
 
 mul-tithis : tie.Need-mul-tithis
-mul-tithis c = omega (arith, kept (c .before .before .before))
+mul-tithis c = omega (arith, kept (c .before .before))
 
 add-tithis : tie.Need-add-tithis
-add-tithis c = omega (arith, kept (c .before .before .before .before))
+add-tithis c = omega (arith, kept (c .before .before .before))
 
 add-tithis-2 : tie.Need-add-tithis-2
-add-tithis-2 c = omega (arith, kept (c .before .before .before .before))
+add-tithis-2 c = omega (arith, kept (c .before .before .before))
 
 sub-civil-days : tie.Need-sub-civil-days
 sub-civil-days c = search needs
 
 mul-result : tie.Need-mul-result
-mul-result c = omega (arith, kept (c .before .before .before .before))
+mul-result c = omega (arith, kept (c .before .before .before))
 
 add-result : tie.Need-add-result
-add-result c = omega (arith, kept (c .before .before .before .before))
+unfolding reckonedDay
+add-result c =
+    small _ _
+    (rw (c .before .before .cycle-of .ensures, c .before .mean-months .ensures))
+    (reckoned _ _ (kept (c .before .before .before)) (c .before .before .before .pre .1 .1))
 
 returns : tie.Need-returns
 unfolding reckonedDay
-returns c = rw (c .before .extra-months .ensures)
+returns c = rw (c .before .before .cycle-of .ensures, c .before .mean-months .ensures)
 
 pub reckoned-day-spec : {M : Type 1} → statement M
 reckoned-day-spec =
     tie.close
     (tie.spec
-    sub-years
-    mul-mean-months
-    add-mean-months
-    extra-months-requires
+    cycle-of-requires
+    mean-months-requires
     add-months
     mul-tithis
     add-tithis

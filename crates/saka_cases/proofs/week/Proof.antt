@@ -5,10 +5,10 @@ use Rattle.saka_cases.proofs.week.Statement.{statement}
 use Rattle.saka_cases.proofs.week.Tie as tie
 
 abbrev Inv-loop : tie.InvT-loop
-Inv-loop year months tithis weekday₀ weekday = weekday ≤ 8
+Inv-loop year months tithis pending weekday₀ weekday = weekday ≤ 8
 
 abbrev μ-loop : tie.MeasureT-loop
-μ-loop year months tithis weekday₀ weekday = 8 - weekday
+μ-loop year months tithis pending weekday₀ weekday = 8 - weekday
 
 loop-holds : tie.Need-loop-holds Inv-loop μ-loop
 loop-holds c = search needs
