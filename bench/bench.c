@@ -83,7 +83,9 @@ static void *search_all(void *unused) {
 }
 static void *places(void *unused) {
     sink += graha_mean_sun(7) + graha_mean_moon(7) + graha_moon_apogee(7) + graha_moon_node(7) + graha_mean_mars(7) + graha_mercury_anomaly(7) +
-            graha_mean_jupiter(7) + graha_venus_anomaly(7) + graha_mean_saturn(7) + graha_true_sun(7) + graha_true_moon(7) + graha_tithi(7) +
+            graha_mean_jupiter(7) + graha_venus_anomaly(7) + graha_mean_saturn(7) + graha_mean_sun_thirds(7) + graha_mean_moon_thirds(7) +
+            graha_moon_apogee_thirds(7) + graha_moon_node_thirds(7) + graha_mean_mars_thirds(7) + graha_mercury_anomaly_thirds(7) +
+            graha_mean_jupiter_thirds(7) + graha_venus_anomaly_thirds(7) + graha_mean_saturn_thirds(7) + graha_true_sun(7) + graha_true_moon(7) + graha_tithi(7) +
             graha_nakshatra(7) + graha_yoga(7) + graha_karana(7);
     return unused;
 }
@@ -143,6 +145,8 @@ int main(int count, char **word) {
     pair("mean Moon", call_job(graha_mean_moon), call_job(plain_mean_moon), 1.1);
     pair("Moon's node", call_job(graha_moon_node), call_job(plain_moon_node), 1.1);
     pair("mean Mars", call_job(graha_mean_mars), call_job(plain_mean_mars), 1.1);
+    pair("thirds of the mean Sun", call_job(graha_mean_sun_thirds), call_job(plain_mean_sun_thirds), 1.1);
+    pair("thirds of the Moon's node", call_job(graha_moon_node_thirds), call_job(plain_moon_node_thirds), 1.1);
     pair("cycle", call_job(graha_day_cycle), call_job(plain_cycle), 1.1);
     pair("day within the cycle", call_job(graha_day_within), call_job(plain_within), 1.1);
     pair("weekday", call_job(graha_day_weekday), call_job(plain_weekday), 1.1);

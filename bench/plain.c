@@ -8,6 +8,8 @@ static inline uint32_t mean(uint32_t day, uint32_t k, uint32_t d, uint64_t p, ui
     return (uint32_t)((k + c * (CIRCLE - d) + a * p / q) % CIRCLE);
 }
 
+static inline uint32_t thirds(uint32_t day, uint64_t p, uint32_t q) { return (uint32_t)(day % 4016 * p % q) * 60 / q; }
+
 static inline uint32_t sun(uint32_t day) { return mean(day, 1258860, 6551, 124186, 35); }
 static inline uint32_t moon(uint32_t day) { return mean(day, 1256760, 13571, 5644749, 119); }
 static inline uint32_t apogee(uint32_t day) { return mean(day, 603180, 981900, 2806, 7); }
@@ -28,6 +30,8 @@ static inline uint32_t true_moon(uint32_t day) { return corrected(moon(day), apo
 uint32_t plain_mean_sun(uint32_t day) { return day > LAST ? 0 : sun(day); }
 uint32_t plain_mean_moon(uint32_t day) { return day > LAST ? 0 : moon(day); }
 uint32_t plain_moon_node(uint32_t day) { return day > LAST ? 0 : mean(day, 99480, 766200, 73861124, 57); }
+uint32_t plain_mean_sun_thirds(uint32_t day) { return day > LAST ? 0 : thirds(day, 124186, 35); }
+uint32_t plain_moon_node_thirds(uint32_t day) { return day > LAST ? 0 : thirds(day, 73861124, 57); }
 uint32_t plain_mean_mars(uint32_t day) { return day > LAST ? 0 : mean(day, 1105680, 199920, 2616600, 1387); }
 uint32_t plain_cycle(uint32_t day) { return day > LAST ? 0 : day / 4016; }
 uint32_t plain_within(uint32_t day) { return day > LAST ? 0 : day % 4016; }

@@ -7,6 +7,8 @@
 uint32_t plain_mean_sun(uint32_t day);
 uint32_t plain_mean_moon(uint32_t day);
 uint32_t plain_moon_node(uint32_t day);
+uint32_t plain_mean_sun_thirds(uint32_t day);
+uint32_t plain_moon_node_thirds(uint32_t day);
 uint32_t plain_mean_mars(uint32_t day);
 uint32_t plain_cycle(uint32_t day);
 uint32_t plain_within(uint32_t day);

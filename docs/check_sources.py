@@ -1,6 +1,7 @@
 #!/usr/bin/env python3
 """Recomputes every K, D and p/q of the nine bodies, and the constants of the two equations, from the numbers and formulas
-that sources 002 and 000 print, and compares them with the definitions in the crates' specs/.
+that sources 002 and 000 print, and compares them with the definitions in the crates' specs/. And holds the thirds and places that
+the sources print to the table's, by what docs/sources.md says of each: that it agrees, or by how much it misses.
 
   python3 docs/check_sources.py
 
@@ -49,6 +50,16 @@ BACKWARDS = {"Moon's node"}
 # Its table 3: the Sun's apogee.
 EQUATIONS_002 = {"trueSun": (9, 20, 57, 9), "trueMoon": (6, 30, 56, 20)}
 SUN_APOGEE = (78,)
+
+# What docs/sources.md says of the thirds that 002 prints: rounded down, rounded to the nearest, or neither.
+PRINTED_THIRDS = ["down", "nearest", "neither", "neither", "down", "down", "down", "down", "neither"]
+
+# Source 000's tables 8 and 9: mean places of two days, (C, A), in degrees, minutes and seconds, and by how many seconds each is more than the
+# table's, rounded to the nearest.
+PLACES_000 = {
+    (8, 1521): [((34, 13, 41), 0), ((200, 10, 19), -3), ((314, 11, 16), -2608), ((44, 21, 6), 3), ((299, 55, 13), 0), ((47, 14, 50), 0), ((128, 15, 16), 0), ((95, 41, 36), 0), ((330, 36, 45), 0)],
+    (43, 2033): [((115, 9, 59), -1), ((334, 31, 31), 2), ((184, 42, 18), -3485), ((128, 2, 49), 0), ((64, 33, 30), 0), ((197, 7, 48), 1), ((330, 17, 58), 1), ((310, 12, 47), 1), ((8, 14, 4), 2)],
+}
 
 # Thirds by which a value that 002 prints may miss its own formula; see docs/sources.md.
 THIRDS = 4
@@ -104,6 +115,20 @@ def mercury():
     same(f"{name}: the term as printed misses the value by over 14 seconds", miss > 14, True)
 
 
+def thirds():
+    for (name, _, _, _, printed), (_, _, p, q), said in zip(SOURCE_002, table(), PRINTED_THIRDS):
+        exact = F(abs(p), q) * 60 % 60
+        rounded = "down" if printed[3] == exact // 1 else "nearest" if printed[3] == (exact + F(1, 2)) // 1 else "neither"
+        same(f"{name}: the thirds printed, {printed[3]} for {float(exact):.2f}, are rounded", rounded, said)
+
+
+def places():
+    for (C, A), printed in PLACES_000.items():
+        for (name, *_), (K, D, p, q), (angle, more) in zip(SOURCE_002, table(), printed):
+            nearest = (K - C * D + F(A * p, q) + F(1, 2)) // 1 % 1296000
+            same(f"{name} on ({C}, {A}): seconds that 000 has more", seconds(angle) - nearest, more)
+
+
 def equations():
     """In seconds, with s the bhuja and R = (part × 3600)²: 3600 × second × Q / (first × second × R − Q), Q = s × (648000 − s)."""
     text = EQUATIONS.read_text(encoding="utf-8")
@@ -119,6 +144,8 @@ def equations():
 
 rows()
 mercury()
+thirds()
+places()
 equations()
 print("the table is the sources'" if not failed else "the table is NOT the sources'")
 sys.exit(failed)

@@ -20,6 +20,9 @@ static void print_places(uint32_t day)
     printf("  mean Sun %u, Moon %u, Mars %u, Jupiter %u, Saturn %u\n", (unsigned)graha_mean_sun(day),
            (unsigned)graha_mean_moon(day), (unsigned)graha_mean_mars(day), (unsigned)graha_mean_jupiter(day),
            (unsigned)graha_mean_saturn(day));
+    uint32_t sun = graha_mean_sun(day);
+    printf("  mean Sun %u degrees %u minutes %u seconds %u thirds\n", (unsigned)(sun / 3600), (unsigned)(sun / 60 % 60),
+           (unsigned)(sun % 60), (unsigned)graha_mean_sun_thirds(day));
     printf("  true Sun %u, Moon %u; tithi %u, nakshatra %u, yoga %u, karana %u\n", (unsigned)graha_true_sun(day),
            (unsigned)graha_true_moon(day), (unsigned)graha_tithi(day), (unsigned)graha_nakshatra(day),
            (unsigned)graha_yoga(day), (unsigned)graha_karana(day));

@@ -74,6 +74,16 @@ uint32_t graha_mercury_anomaly(uint32_t day);
 uint32_t graha_mean_jupiter(uint32_t day);
 uint32_t graha_venus_anomaly(uint32_t day);
 uint32_t graha_mean_saturn(uint32_t day);
+/* The part of a second behind the whole seconds of each, in thirds, sixtieths of a second, rounded down: 0 to 59. */
+uint32_t graha_mean_sun_thirds(uint32_t day);
+uint32_t graha_mean_moon_thirds(uint32_t day);
+uint32_t graha_moon_apogee_thirds(uint32_t day);
+uint32_t graha_moon_node_thirds(uint32_t day);
+uint32_t graha_mean_mars_thirds(uint32_t day);
+uint32_t graha_mercury_anomaly_thirds(uint32_t day);
+uint32_t graha_mean_jupiter_thirds(uint32_t day);
+uint32_t graha_venus_anomaly_thirds(uint32_t day);
+uint32_t graha_mean_saturn_thirds(uint32_t day);
 
 /* A day's true Sun and Moon. */
 uint32_t graha_true_sun(uint32_t day);

@@ -1,6 +1,6 @@
 //! The calls of the two static archives: `host`, the museum's C calls, and `bridge`, a test library
-//! that reaches the search and the look with every condition, and the text that `find` prints. A
-//! number of a refused call is 0, but with 7.
+//! that reaches the search and the look with every condition, the text that `find` prints, and a mean
+//! place with its left-over and divisor. A number of a refused call is 0, but with 7.
 
 #[link(name = "host", kind = "static")]
 unsafe extern "C" {
@@ -49,6 +49,16 @@ unsafe extern "C" {
     pub safe fn graha_venus_anomaly(day: u32) -> u32;
     pub safe fn graha_mean_saturn(day: u32) -> u32;
 
+    pub safe fn graha_mean_sun_thirds(day: u32) -> u32;
+    pub safe fn graha_mean_moon_thirds(day: u32) -> u32;
+    pub safe fn graha_moon_apogee_thirds(day: u32) -> u32;
+    pub safe fn graha_moon_node_thirds(day: u32) -> u32;
+    pub safe fn graha_mean_mars_thirds(day: u32) -> u32;
+    pub safe fn graha_mercury_anomaly_thirds(day: u32) -> u32;
+    pub safe fn graha_mean_jupiter_thirds(day: u32) -> u32;
+    pub safe fn graha_venus_anomaly_thirds(day: u32) -> u32;
+    pub safe fn graha_mean_saturn_thirds(day: u32) -> u32;
+
     pub safe fn graha_true_sun(day: u32) -> u32;
     pub safe fn graha_true_moon(day: u32) -> u32;
     pub safe fn graha_tithi(day: u32) -> u32;
@@ -89,6 +99,12 @@ unsafe extern "C" {
         -> u32;
     pub fn bridge_length(query: *const u8, query_len: usize) -> u32;
     pub fn bridge_looked(query: *const u8, query_len: usize) -> u32;
+
+    /// A body above 8 is Saturn too.
+    pub safe fn bridge_longitude_result(body: u32, day: u32) -> u32;
+    pub safe fn bridge_longitude_seconds(body: u32, day: u32) -> u32;
+    pub safe fn bridge_longitude_remainder(body: u32, day: u32) -> u32;
+    pub safe fn bridge_longitude_divisor(body: u32, day: u32) -> u32;
 
     pub fn bridge_examine_result(query: *const u8, query_len: usize, day: u32) -> u32;
     pub fn bridge_examine_matches(query: *const u8, query_len: usize, day: u32) -> u32;

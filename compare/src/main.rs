@@ -17,6 +17,9 @@ fn main() {
         runs::worked::run(checks, &almanac)
     });
     checks.part("days", |checks| runs::days::run(checks, &almanac));
+    checks.part("parts of a second", |checks| {
+        runs::longitudes::run(checks, &almanac)
+    });
     checks.part("pairs and steps", runs::pairs::run);
     checks.part("civil dates", |checks| runs::civil::run(checks, &almanac));
     checks.part("Saka dates", runs::saka::run);
@@ -35,6 +38,9 @@ fn main() {
     });
     checks.part("day sheets", |checks| {
         runs::day_sheet::run(checks, &almanac)
+    });
+    checks.part("engravings", |checks| {
+        runs::engraving::run(checks, &almanac)
     });
     checks.part("pages", |checks| runs::find::run(checks, &almanac));
     println!("compare: {} checks, 0 differences", checks.total());

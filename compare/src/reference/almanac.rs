@@ -4,7 +4,7 @@ use std::collections::HashMap;
 
 use super::civil::Date;
 use super::days::{next_weekday, Pair, MONDAY};
-use super::longitudes::mean_places;
+use super::longitudes::longitudes;
 use super::panchanga;
 use super::refusal::{Answer, NO_SUCH_DATE, OUT_OF_RANGE};
 
@@ -15,6 +15,7 @@ pub struct Day {
     pub pair: Pair,
     pub weekday: u32,
     pub mean: [u32; 9],
+    pub thirds: [u32; 9],
     pub sun: u32,
     pub moon: u32,
     pub tithi: u32,
@@ -25,7 +26,8 @@ pub struct Day {
 
 impl Day {
     fn reckon(date: Date, pair: Pair, weekday: u32) -> Day {
-        let mean = mean_places(pair);
+        let longitudes = longitudes(pair);
+        let mean = longitudes.map(|longitude| longitude.seconds);
         let sun = panchanga::true_sun(&mean);
         let moon = panchanga::true_moon(&mean);
         Day {
@@ -33,6 +35,7 @@ impl Day {
             pair,
             weekday,
             mean,
+            thirds: longitudes.map(|longitude| longitude.thirds),
             sun,
             moon,
             tithi: panchanga::tithi(sun, moon),

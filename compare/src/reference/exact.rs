@@ -41,6 +41,21 @@ impl Fraction {
         self.over.div_euclid(self.under)
     }
 
+    /// The whole number that the fraction is.
+    pub fn as_whole(self) -> i128 {
+        assert!(self.floor() == self.ceiling(), "the fraction is whole");
+        self.floor()
+    }
+
+    /// The same fraction in its lowest terms: what is above, and the divisor.
+    pub fn lowest_terms(self) -> (i128, i128) {
+        let (mut common, mut rest) = (self.under, self.over.abs());
+        while rest > 0 {
+            (common, rest) = (rest, common % rest);
+        }
+        (self.over / common, self.under / common)
+    }
+
     /// The least whole number not below the fraction.
     pub fn ceiling(self) -> i128 {
         -self.times(-1).floor()

@@ -1,4 +1,5 @@
-//! Paper 01, "Mean places": the nine mean longitudes, in whole seconds of arc.
+//! Paper 01, "Mean places": the nine mean longitudes, in whole seconds of arc; and paper 02, L2:
+//! the part of a second that each has besides.
 
 use super::days::Pair;
 use super::exact::{reduced, Fraction};
@@ -6,6 +7,21 @@ use super::exact::{reduced, Fraction};
 pub const SUN: usize = 0;
 pub const MOON: usize = 1;
 pub const MOON_APOGEE: usize = 2;
+pub const MARS: usize = 4;
+pub const MERCURY_ANOMALY: usize = 5;
+pub const JUPITER: usize = 6;
+pub const VENUS_ANOMALY: usize = 7;
+pub const SATURN: usize = 8;
+
+/// L2: the mean place's whole seconds, "what was left over and its divisor, the table's q"; and
+/// "thirds, sixtieths of a second".
+#[derive(Clone, Copy)]
+pub struct Longitude {
+    pub seconds: u32,
+    pub left_over: u32,
+    pub divisor: u32,
+    pub thirds: u32,
+}
 
 enum Motion {
     Forwards,
@@ -56,20 +72,34 @@ const BODIES: [Body; 9] = [
 ];
 
 impl Body {
-    /// "The exact mean place is K − C × D + A × p/q, for the node K − C × D − A × p/q. The mean
-    /// place is the greatest whole number not above it, reduced by whole circles."
-    fn mean_place(&self, pair: Pair) -> u32 {
+    /// "The exact mean place is K − C × D + A × p/q, for the node K − C × D − A × p/q."
+    fn exact_place(&self, pair: Pair) -> Fraction {
         let at_cycle = Fraction::whole(self.k - i128::from(pair.cycle) * self.d);
         let moved = Fraction::new(self.p, self.q).times(i128::from(pair.within));
-        let exact = match self.motion {
+        match self.motion {
             Motion::Forwards => at_cycle.plus(moved),
             Motion::Backwards => at_cycle.minus(moved),
-        };
-        reduced(exact.floor())
+        }
+    }
+
+    /// "The mean place is the greatest whole number not above it, reduced by whole circles." What
+    /// the exact place has above that number is left over: the left-over counts it in q-ths of a
+    /// second, the thirds in sixtieths, "rounded down".
+    fn longitude(&self, pair: Pair) -> Longitude {
+        let exact = self.exact_place(pair);
+        let whole = exact.floor();
+        let part = exact.minus(Fraction::whole(whole));
+        Longitude {
+            seconds: reduced(whole),
+            left_over: part.times(self.q).as_whole() as u32,
+            divisor: self.q as u32,
+            thirds: part.times(60).floor() as u32,
+        }
     }
 }
 
-/// "The nine mean places are handed back together, in the order of this table."
-pub fn mean_places(pair: Pair) -> [u32; 9] {
-    BODIES.each_ref().map(|body| body.mean_place(pair))
+/// "The nine mean places are handed back together, in the order of this table"; "beside the nine
+/// mean places come their nine thirds".
+pub fn longitudes(pair: Pair) -> [Longitude; 9] {
+    BODIES.each_ref().map(|body| body.longitude(pair))
 }

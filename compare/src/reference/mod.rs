@@ -1,8 +1,8 @@
-//! The rules of paper 01, and of paper 02's L4, each written a second time and by another method
-//! than the proved crates: exact fractions with one floor, dates by walking the calendar day by
-//! day, and a search that tests every day of its span. Each function cites the paper's heading that
-//! it follows; the page of `find` and what it prints, which the papers leave open, are described in
-//! `page` and `catalogue`.
+//! The rules of paper 01, and of paper 02's L2 and L4, each written a second time and by another
+//! method than the proved crates: exact fractions with one floor, dates by walking the calendar day
+//! by day, and a search that tests every day of its span. Each function cites the paper's heading
+//! that it follows; the page of `find` and what it prints, which the papers leave open, are
+//! described in `page` and `catalogue`, and what `engraving` prints in `plate`.
 
 pub mod almanac;
 pub mod catalogue;
@@ -10,8 +10,10 @@ pub mod civil;
 pub mod days;
 pub mod exact;
 pub mod longitudes;
+pub mod motions;
 pub mod page;
 pub mod panchanga;
+pub mod plate;
 pub mod refusal;
 pub mod saka;
 pub mod search;

@@ -6,7 +6,7 @@ use super::refusal::{Answer, BAD_INPUT};
 const HEADING: &str = "day cycle within weekday sun moon tithi nakshatra yoga karana";
 
 /// The number of an input that is "1 to 6 decimal digits and one newline"; 3 for any other.
-fn number_in(input: &[u8]) -> Answer<u32> {
+pub fn number_in(input: &[u8]) -> Answer<u32> {
     let digits = input.strip_suffix(b"\n").ok_or(BAD_INPUT)?;
     let all_digits = digits.iter().all(u8::is_ascii_digit);
     if !all_digits || digits.is_empty() || digits.len() > 6 {

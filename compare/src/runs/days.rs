@@ -12,7 +12,7 @@ use super::WIDTH_EDGES;
 /// A call, and where the second program has the same number.
 type DayCall = (&'static str, extern "C" fn(u32) -> u32, fn(&Day) -> u32);
 
-const DAY_CALLS: [DayCall; 21] = [
+const DAY_CALLS: [DayCall; 30] = [
     ("graha_day_year", graha_day_year, |day| day.date.year),
     ("graha_day_month", graha_day_month, |day| day.date.month),
     ("graha_day_of_month", graha_day_of_month, |day| day.date.day),
@@ -32,6 +32,43 @@ const DAY_CALLS: [DayCall; 21] = [
         day.mean[7]
     }),
     ("graha_mean_saturn", graha_mean_saturn, |day| day.mean[8]),
+    ("graha_mean_sun_thirds", graha_mean_sun_thirds, |day| {
+        day.thirds[0]
+    }),
+    ("graha_mean_moon_thirds", graha_mean_moon_thirds, |day| {
+        day.thirds[1]
+    }),
+    (
+        "graha_moon_apogee_thirds",
+        graha_moon_apogee_thirds,
+        |day| day.thirds[2],
+    ),
+    ("graha_moon_node_thirds", graha_moon_node_thirds, |day| {
+        day.thirds[3]
+    }),
+    ("graha_mean_mars_thirds", graha_mean_mars_thirds, |day| {
+        day.thirds[4]
+    }),
+    (
+        "graha_mercury_anomaly_thirds",
+        graha_mercury_anomaly_thirds,
+        |day| day.thirds[5],
+    ),
+    (
+        "graha_mean_jupiter_thirds",
+        graha_mean_jupiter_thirds,
+        |day| day.thirds[6],
+    ),
+    (
+        "graha_venus_anomaly_thirds",
+        graha_venus_anomaly_thirds,
+        |day| day.thirds[7],
+    ),
+    (
+        "graha_mean_saturn_thirds",
+        graha_mean_saturn_thirds,
+        |day| day.thirds[8],
+    ),
     ("graha_true_sun", graha_true_sun, |day| day.sun),
     ("graha_true_moon", graha_true_moon, |day| day.moon),
     ("graha_tithi", graha_tithi, |day| day.tithi),

@@ -1,14 +1,17 @@
 //! The comparisons, a file for each part.
 
 pub mod civil;
+pub mod day_input;
 pub mod day_sheet;
 pub mod days;
+pub mod engraving;
 pub mod find;
 pub mod general_search;
 pub mod host_search;
 pub mod kept;
 pub mod lent;
 pub mod lines;
+pub mod longitudes;
 pub mod look;
 pub mod page_text;
 pub mod pairs;

@@ -6,8 +6,11 @@ use crate::checks::Checks;
 use crate::reference::almanac::Almanac;
 use crate::reference::civil::Date;
 use crate::reference::days::LAST_DAY;
-use crate::reference::longitudes::{MOON, MOON_APOGEE, SUN};
+use crate::reference::longitudes::{
+    JUPITER, MARS, MERCURY_ANOMALY, MOON, MOON_APOGEE, SUN, VENUS_ANOMALY,
+};
 use crate::reference::page::printed;
+use crate::reference::plate::plate;
 use crate::reference::saka::SakaDate;
 use crate::reference::search::{Arc, Query};
 use crate::reference::sheet::day_sheet;
@@ -139,6 +142,32 @@ fn places(checks: &mut Checks, almanac: &Almanac) {
     );
 }
 
+/// L2: at the epoch nothing is left over; and a day later a body has gone on by its motion a day,
+/// which document 002 prints in degrees, minutes, seconds and thirds. Mercury's is the value that
+/// paper 01 lets decide. Left out are the four that the document prints otherwise than its own
+/// fractions give them, rounded down: the Moon's, its apogee's, its node's and Saturn's.
+fn thirds(checks: &mut Checks, almanac: &Almanac) {
+    let days = almanac.days();
+    let input = || "day 0".to_string();
+    checks.same("the nine thirds", input, [0; 9], days[0].thirds);
+    let motions = [
+        (SUN, [0, 59, 8, 10]),
+        (MARS, [0, 31, 26, 31]),
+        (MERCURY_ANOMALY, [3, 6, 24, 8]),
+        (JUPITER, [0, 4, 59, 8]),
+        (VENUS_ANOMALY, [0, 36, 59, 40]),
+    ];
+    for (body, motion) in motions {
+        let expected = motion.iter().fold(0, |sum, number| 60 * sum + number);
+        let [before, after] = [0, 1].map(|day: usize| {
+            let day = &days[day];
+            60 * day.mean[body] + day.thirds[body]
+        });
+        let input = || format!("body {body}, day 0 to day 1");
+        checks.same("the motion in thirds", input, expected, after - before);
+    }
+}
+
 /// "Days on both sides", the Saka dates; and document 000's example of a year whose extra month is
 /// still ahead, with each refusal of a date that has the mark.
 fn saka_dates(checks: &mut Checks) {
@@ -238,6 +267,23 @@ fn sheet(checks: &mut Checks, almanac: &Almanac) {
     );
 }
 
+/// L2: the plate of day 0, with "places of K" as document 002 prints these.
+fn epoch_plate(checks: &mut Checks, almanac: &Almanac) {
+    let expected = "body degrees minutes seconds thirds\n\
+                    sun 349 41 0 0\n\
+                    moon 349 6 0 0\n\
+                    apogee 167 33 0 0\n\
+                    node 27 38 0 0\n\
+                    mars 307 8 0 0\n\
+                    mercury 269 33 0 0\n\
+                    jupiter 212 16 0 0\n\
+                    venus 230 9 0 0\n\
+                    saturn 285 21 0 0\n";
+    let input = || "0".to_string();
+    let came = plate(almanac, b"0\n");
+    checks.same("the plate", input, expected.to_string(), came);
+}
+
 /// "Days on both sides" as pages: the limbs of two days, and the search's beginning.
 fn pages(checks: &mut Checks, almanac: &Almanac) {
     let heading = "day date weekday tithi nakshatra yoga karana";
@@ -279,9 +325,11 @@ pub fn run(checks: &mut Checks, almanac: &Almanac) {
     dates(checks, almanac);
     every_day(checks, almanac);
     places(checks, almanac);
+    thirds(checks, almanac);
     saka_dates(checks);
     a_month_earlier(checks);
     search(checks, almanac);
     sheet(checks, almanac);
+    epoch_plate(checks, almanac);
     pages(checks, almanac);
 }

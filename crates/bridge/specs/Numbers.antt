@@ -4,6 +4,7 @@ use mathlib.Core.Bool.{cond}
 use mathlib.Core.List.{List}
 use mathlib.Core.Path.{_≡_}
 use Prim.Native.Nat.{ℕ}
+use Rattle.longitudes.specs.declared.MeanLongitude.{MeanLongitude}
 use Rattle.search.specs.declared.Found.{Found}
 use Rattle.bridge.specs.declared.looks.Look.{Look}
 use Rattle.bridge.specs.Answers.{bridgeLength, bridgeLooked, bridgeExamined}
@@ -16,3 +17,9 @@ pub record BridgeLook (bytes : List ℕ) (day : ℕ) (look : Look) : Type 0 wher
   pub result : look .result ≡ bridgeExamined bytes day .refusal
   pub match : look .matches ≡ cond (bridgeExamined bytes day .matches) 1 0
   pub next : look .next ≡ bridgeExamined bytes day .next
+
+pub record BridgeLongitude (meant found : MeanLongitude) : Type 0 where
+  pub refusal : found .refusal ≡ meant .refusal
+  pub seconds : found .seconds ≡ meant .seconds
+  pub remainder : found .remainder ≡ meant .remainder
+  pub divisor : found .divisor ≡ meant .divisor

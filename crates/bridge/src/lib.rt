@@ -1,5 +1,6 @@
-// The general search as C calls, for comparison runs and not for hosts: a query comes as 148 bytes, 37 numbers of four, low byte first.
+// The general search, the look, the catalogue's pieces and the mean longitudes as C calls, for comparison runs and not for hosts: a query comes as 148 bytes, 37 numbers of four, low byte first.
 // They are the first and the last day; for weekday, tithi, nakshatra and yoga: given (0 no, any other number yes) and value; for each body: given, start and width.
+mod bodies;
 mod looks;
 mod pieces;
 

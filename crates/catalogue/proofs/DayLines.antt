@@ -1,6 +1,6 @@
 -- The line of a day, put together from what is found of the day, and that it fits a line: each number of it has few digits, those of a date
 -- since each of the three grows by at most one from date to date. Assumes nothing.
-use mathlib.Core.Path.{_≡_, ap, _∙_}
+use mathlib.Core.Path.{_≡_, refl, ap, _∙_}
 use mathlib.Core.Bool.{Bool, true, false, cond}
 use mathlib.Core.List.{List, [], _∷_, _++_, append-assoc}
 use Prim.Native.Nat.{ℕ, zero, suc, _+_, _≤_, _<_}
@@ -28,6 +28,7 @@ use Rattle.text.proofs.Lines.{with-byte-is, with-bytes-append}
 use Rattle.text.proofs.Printing.{digits-length, digits-some}
 use Rattle.words.specs.Names.{weekdayNames}
 use Rattle.words.specs.Words.{nameAt}
+use Rattle.words.proofs.Names.{noLonger, name-length}
 use Rattle.catalogue.specs.Catalogue.{catalogueHeading, dateBytes, elementBytes, dayLine}
 
 -- the bytes of a line, from a day's number, date, weekday's name and elements
@@ -65,15 +66,8 @@ day-made l n answer found weekday name p h ea ef ew en ep =
     put-together l n (dateBytes (found .date)) name (elementBytes p) ∙ ap (withBytes l) (rw (ep, k .pair, ef, en, w) (of-pair n h))
 
 name-short : (n : ℕ) → length (nameAt weekdayNames n) ≤ 9
-unfolding nameAt
-name-short zero = omega arith
-name-short (suc zero) = omega arith
-name-short (suc (suc zero)) = omega arith
-name-short (suc (suc (suc zero))) = omega arith
-name-short (suc (suc (suc (suc zero)))) = omega arith
-name-short (suc (suc (suc (suc (suc zero))))) = omega arith
-name-short (suc (suc (suc (suc (suc (suc zero)))))) = omega arith
-name-short (suc (suc (suc (suc (suc (suc (suc n))))))) = omega arith
+unfolding noLonger
+name-short n = name-length 9 weekdayNames refl n
 
 record Small (most : ℕ) (x : Date) : Type 0 where
   year : x .year ≤ most

@@ -10,7 +10,9 @@ use Rattle.days.specs.Refusals.{accepted, outOfRange}
 use Rattle.days.specs.Days.{lastDay, pairAt, onDay, dayOf}
 use Rattle.days.proofs.Laws.{pair-in-range, day-of, past-last, given, refused}
 use Rattle.civil.specs.Answers.{dateOfDay}
-use Rattle.longitudes.specs.Answers.{longitudesOf}
+use Rattle.longitudes.specs.declared.Body.{Body}
+use Rattle.longitudes.specs.Answers.{longitudeOf, longitudesOf}
+use Rattle.longitudes.proofs.Answers.{longitude-given, longitude-refused}
 use Rattle.panchanga.specs.OnDays.{panchangaOf}
 use Rattle.host.specs.Calls.{onNumber}
 use Rattle.host.proofs.OnNumbers.{pair-past-last, on-number}
@@ -19,8 +21,9 @@ use Rattle.host.proofs.OnNumbers.{pair-past-last, on-number}
 pub record Refused (n refusal : ℕ) : Type 0 where
   pub date : dateOfDay n .refusal ≡ refusal
   pub longitudes : longitudesOf (pairAt n) .refusal ≡ refusal
+  pub longitude : (b : Body) → longitudeOf b (pairAt n) .refusal ≡ refusal
   pub elements : panchangaOf (pairAt n) .refusal ≡ refusal
-  -- each single number f of a day: the weekday, a mean longitude, the true Sun and Moon, an element
+  -- each single number f of a day: the weekday, a mean longitude's seconds or thirds, the true Sun and Moon, an element
   pub number : (f : Day → ℕ) → onDay f (pairAt n) .refusal ≡ refusal
 
 there-is : (n : ℕ) → n ≤ lastDay → Refused n accepted
@@ -29,6 +32,7 @@ there-is n h =
     record {
       date = rw (le-leb _ _ h);
       longitudes = rw (pair-in-range n h);
+      longitude = λ b. rw (longitude-given b (pairAt n) (pair-in-range n h));
       elements = rw (pair-in-range n h);
       number = λ f. rw (given f (pairAt n) (pair-in-range n h));
     }
@@ -39,6 +43,7 @@ there-is-none n h =
     record {
       date = rw (lt-leb _ _ h);
       longitudes = rw (pair-past-last n h);
+      longitude = λ b. rw (longitude-refused b (pairAt n) (pair-past-last n h));
       elements = rw (pair-past-last n h);
       number = λ f. rw (refused f (pairAt n) (pair-past-last n h));
     }

@@ -1,9 +1,9 @@
-// The numbers of a day, by its number: the weekday, mean and true longitudes in seconds of arc, and the panchanga elements. 0 where there is no such day.
+// The numbers of a day, by its number: the weekday, mean longitudes in seconds of arc and the thirds behind them, true longitudes, and the panchanga elements. 0 where there is no such day.
 use days::Day;
 use longitudes::Body;
 ghost use mathlib.Core.Path.{_≡_};
 ghost use Rattle.days.specs.Days.{pairAt, weekdayAt};
-ghost use Rattle.longitudes.specs.Longitudes.{longitudeAt};
+ghost use Rattle.longitudes.specs.Longitudes.{longitudeAt, thirdsAt};
 ghost use Rattle.longitudes.specs.Answers.{bodyNumber};
 ghost use Rattle.panchanga.specs.OnDays.{trueSunAt, trueMoonAt, tithiAt, nakshatraAt, yogaAt, karanaAt};
 ghost use Rattle.host.specs.Calls.{onNumber};
@@ -29,7 +29,7 @@ pub extern "C" fn graha_day_weekday(day: u32) -> u32
 fn mean_longitude(body: Body, day: u32) -> u32
     ensures { λ r. ⌜ r ≡ onNumber (longitudeAt (bodyNumber body)) day ⌝ }
 {
-    longitudes::mean_longitude(body, pair(day)).number
+    longitudes::mean_longitude(body, pair(day)).seconds
 }
 
 #[no_mangle]
@@ -93,6 +93,76 @@ pub extern "C" fn graha_mean_saturn(day: u32) -> u32
     ensures { λ r. ⌜ r ≡ onNumber (longitudeAt 8) day ⌝ }
 {
     mean_longitude(Body::Saturn, day)
+}
+
+// The sixtieths of a second behind the whole seconds of a mean longitude.
+fn mean_thirds(body: Body, day: u32) -> u32
+    ensures { λ r. ⌜ r ≡ onNumber (thirdsAt (bodyNumber body)) day ⌝ }
+{
+    longitudes::mean_thirds(body, pair(day)).number
+}
+
+#[no_mangle]
+pub extern "C" fn graha_mean_sun_thirds(day: u32) -> u32
+    ensures { λ r. ⌜ r ≡ onNumber (thirdsAt 0) day ⌝ }
+{
+    mean_thirds(Body::Sun, day)
+}
+
+#[no_mangle]
+pub extern "C" fn graha_mean_moon_thirds(day: u32) -> u32
+    ensures { λ r. ⌜ r ≡ onNumber (thirdsAt 1) day ⌝ }
+{
+    mean_thirds(Body::Moon, day)
+}
+
+#[no_mangle]
+pub extern "C" fn graha_moon_apogee_thirds(day: u32) -> u32
+    ensures { λ r. ⌜ r ≡ onNumber (thirdsAt 2) day ⌝ }
+{
+    mean_thirds(Body::MoonApogee, day)
+}
+
+#[no_mangle]
+pub extern "C" fn graha_moon_node_thirds(day: u32) -> u32
+    ensures { λ r. ⌜ r ≡ onNumber (thirdsAt 3) day ⌝ }
+{
+    mean_thirds(Body::MoonNode, day)
+}
+
+#[no_mangle]
+pub extern "C" fn graha_mean_mars_thirds(day: u32) -> u32
+    ensures { λ r. ⌜ r ≡ onNumber (thirdsAt 4) day ⌝ }
+{
+    mean_thirds(Body::Mars, day)
+}
+
+#[no_mangle]
+pub extern "C" fn graha_mercury_anomaly_thirds(day: u32) -> u32
+    ensures { λ r. ⌜ r ≡ onNumber (thirdsAt 5) day ⌝ }
+{
+    mean_thirds(Body::MercuryAnomaly, day)
+}
+
+#[no_mangle]
+pub extern "C" fn graha_mean_jupiter_thirds(day: u32) -> u32
+    ensures { λ r. ⌜ r ≡ onNumber (thirdsAt 6) day ⌝ }
+{
+    mean_thirds(Body::Jupiter, day)
+}
+
+#[no_mangle]
+pub extern "C" fn graha_venus_anomaly_thirds(day: u32) -> u32
+    ensures { λ r. ⌜ r ≡ onNumber (thirdsAt 7) day ⌝ }
+{
+    mean_thirds(Body::VenusAnomaly, day)
+}
+
+#[no_mangle]
+pub extern "C" fn graha_mean_saturn_thirds(day: u32) -> u32
+    ensures { λ r. ⌜ r ≡ onNumber (thirdsAt 8) day ⌝ }
+{
+    mean_thirds(Body::Saturn, day)
 }
 
 #[no_mangle]

@@ -1,9 +1,9 @@
 -- Reduction in naturals: of an integer a − b, t whole turns are put on first, so that what is reduced is a natural.
 -- Assumes nothing.
 use mathlib.Core.Path.{_≡_, sym, ap, _∙_}
-use Prim.Native.Nat.{ℕ, suc, _+_, _*_, _/_, _%_, _<_}
+use Prim.Native.Nat.{ℕ, suc, _+_, _*_, _-_, _/_, _%_, _≤_, _<_}
 use native.Mathlib.Omega.{arith}
-use native.Mathlib.Nat.{add-mul-div-right, add-mul-mod-self-right, div-add-mod', mod-lt, lt-of-mul-lt-mul-right}
+use native.Mathlib.Nat.{add-mul-div-right, add-mul-mod-self-right, div-add-mod', mod-lt, mod-eq-of-lt, mul-le-mul-right, lt-of-mul-lt-mul-right}
 use lib.IntN.{ℤ, pos, negsuc}
 use Rattle.integers.specs.Integers.{floorOver, reduced}
 use Rattle.integers.proofs.Less.{Less}
@@ -48,3 +48,25 @@ floor-reduced (negsuc n) a b N q m t hq hm h e =
     let w : N + suc n ≡ t * m * q = omega arith in
     let v : N / q + suc (n / q) ≡ t * m = quotients N n (t * m) q hq w in
     omega (arith, remainders (N / q) (n / q) t m hm v)
+
+-- the remainder by m × q: that of the quotient by q, q times, and the remainder by q
+remainder-by : (n q m : ℕ) → 0 < q → 0 < m → n % (m * q) ≡ n / q % m * q + n % q
+remainder-by n q m hq hm =
+    ap (λ (x : ℕ). x % (m * q)) (sym split) ∙ add-mul-mod-self-right rest (n / q / m) (m * q) ∙ mod-eq-of-lt small
+  where
+    rest : ℕ
+    rest = n / q % m * q + n % q
+
+    split : rest + n / q / m * (m * q) ≡ n
+    split = omega (arith, div-add-mod' n q, ap (λ (x : ℕ). x * q) (div-add-mod' (n / q) m))
+
+    small : rest < m * q
+    small = omega (arith, mod-lt n hq, mul-le-mul-right {m = suc (n / q % m)} {n = m} q (mod-lt (n / q) hm))
+
+-- an integer reduced by m × q: its floor over q reduced by m, q times, and what was left over
+pub floor-left : (z : ℤ) (q m : ℕ) → 0 < q → 0 < m → reduced (floorOver z q) m * q + reduced z q ≡ reduced z (m * q)
+unfolding floorOver reduced
+floor-left (pos n) q m hq hm = sym (remainder-by n q m hq hm)
+floor-left (negsuc n) q m hq hm =
+    let x : suc (n / q % m) + (m - suc (n / q % m)) ≡ m = omega (arith, mod-lt (n / q) hm) in
+    omega (arith, remainder-by n q m hq hm, mod-lt n hq, ap (λ (t : ℕ). t * q) x)

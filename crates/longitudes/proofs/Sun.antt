@@ -11,7 +11,7 @@ use lib.ListN.{getD}
 use borrow.Author.Tests.{ltb-true, ltb-false, eqb-true, eqb-false}
 use Rattle.days.specs.Days.{pairAt}
 use Rattle.longitudes.specs.Longitudes.{circle, noRow, table, longitudeAt}
-use Rattle.longitudes.proofs.Mean.{mean-in-naturals}
+use Rattle.longitudes.proofs.Mean.{in-naturals}
 use Rattle.longitudes.proofs.Table.{row-in-range}
 
 -- on the day n, which may be any number
@@ -20,7 +20,7 @@ unrolled n = 1258860 + n / 4016 * (11 * circle - 6551) + n % 4016 * 124186 / 35
 
 pub unrolled-reduced : (n : ℕ) → unrolled n % circle ≡ longitudeAt 0 (pairAt n)
 unfolding unrolled longitudeAt table
-unrolled-reduced n = sym (mean-in-naturals (getD table 0 noRow) (n / 4016) (n % 4016) (row-in-range 0 (omega arith)) ∙ omega arith)
+unrolled-reduced n = sym (in-naturals (getD table 0 noRow) (n / 4016) (n % 4016) (row-in-range 0 (omega arith)) .seconds ∙ omega arith)
 
 -- the day after n is s seconds on
 abbrev pub Gains : ℕ → ℕ → Type 0

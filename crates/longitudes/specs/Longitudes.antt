@@ -1,7 +1,7 @@
--- The mean longitudes, paper 01's mean places: K − C × D + A × p/q, the greatest whole number not above it, reduced by whole circles.
+-- The mean longitudes, paper 01's mean places: K − C × D + A × p/q, the greatest whole number not above it, reduced by whole circles; and what was left over, paper 02's part of a second.
 -- Assumes nothing.
 use mathlib.Core.List.{List, [], _∷_, map}
-use Prim.Native.Nat.{ℕ}
+use Prim.Native.Nat.{ℕ, _*_, _/_}
 use lib.IntN.{ℤ, pos, negℤ, _+ℤ_, _-ℤ_, _*ℤ_}
 use lib.ListN.{getD}
 use Rattle.days.specs.declared.Day.{Day}
@@ -51,6 +51,14 @@ exactTimesQ row C A = (pos (row .K) -ℤ pos C *ℤ pos (row .D)) *ℤ pos (row 
 unfoldable pub meanLongitude : Row → ℕ → ℕ → ℕ
 meanLongitude row C A = reduced (floorOver (exactTimesQ row C A) (row .q)) circle
 
+-- paper 02's left-over: what q times the exact longitude has above whole seconds, which are q each
+unfoldable pub remainderOf : Row → ℕ → ℕ → ℕ
+remainderOf row C A = reduced (exactTimesQ row C A) (row .q)
+
+-- thirds, sixtieths of a second: remainder × 60 / q, rounded down
+unfoldable pub thirds : Row → ℕ → ℕ → ℕ
+thirds row C A = remainderOf row C A * 60 / row .q
+
 abbrev pub noRow : Row
 noRow = record { K = 0; D = 0; p = pos 0; q = 0 }
 
@@ -58,6 +66,19 @@ noRow = record { K = 0; D = 0; p = pos 0; q = 0 }
 unfoldable pub longitudeAt : ℕ → Day → ℕ
 longitudeAt b d = meanLongitude (getD table b noRow) (d .cycle) (d .within)
 
+unfoldable pub remainderAt : ℕ → Day → ℕ
+remainderAt b d = remainderOf (getD table b noRow) (d .cycle) (d .within)
+
+-- the remainder's divisor, the table's q
+unfoldable pub divisorAt : ℕ → ℕ
+divisorAt b = getD table b noRow .q
+
+unfoldable pub thirdsAt : ℕ → Day → ℕ
+thirdsAt b d = thirds (getD table b noRow) (d .cycle) (d .within)
+
 -- of the nine in the table's order
 unfoldable pub longitudesAt : Day → List ℕ
 longitudesAt d = map (λ (row : Row). meanLongitude row (d .cycle) (d .within)) table
+
+unfoldable pub nineThirdsAt : Day → List ℕ
+nineThirdsAt d = map (λ (row : Row). thirds row (d .cycle) (d .within)) table

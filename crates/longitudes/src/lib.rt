@@ -1,13 +1,13 @@
-// The mean longitudes of the nine bodies: paper 01's mean places, in whole seconds of arc.
+// The mean longitudes of the nine bodies: paper 01's mean places, in whole seconds of arc, with paper 02's part of a second.
 use days::Day;
 use days::NumberAnswer;
 use days::refusal;
 ghost use mathlib.Core.Path.{_≡_};
 ghost use mathlib.Core.Bool.{true};
-ghost use Prim.Native.Nat.{_<_};
+ghost use Prim.Native.Nat.{_*_, _/_, _<_};
 ghost use Rattle.days.specs.Days.{inRange};
-ghost use Rattle.longitudes.specs.Longitudes.{differenceOf, longitudeAt, longitudesAt};
-ghost use Rattle.longitudes.specs.Answers.{bodyNumber, longitudeOf, longitudesOf};
+ghost use Rattle.longitudes.specs.Longitudes.{differenceOf};
+ghost use Rattle.longitudes.specs.Answers.{bodyNumber, theLongitude, longitudeOf, thirdsOf, longitudesOf};
 
 // Seconds of arc in a circle.
 pub const CIRCLE: u32 = 1296000;
@@ -26,10 +26,19 @@ pub enum Body {
     Saturn,
 }
 
-// The nine in the order of `Body`; a refusal has all zeros.
+// One body's: its whole seconds, and what was left over of the exact longitude, as a fraction of a second with this divisor. A refusal has all zeros.
+pub struct MeanLongitude {
+    pub refusal: u32,
+    pub seconds: u32,
+    pub remainder: u32,
+    pub divisor: u32,
+}
+
+// The nine in the order of `Body`, whole seconds and thirds; a refusal has all zeros.
 pub struct MeanLongitudes {
     pub refusal: u32,
     pub longitudes: [u32; BODIES],
+    pub thirds: [u32; BODIES],
 }
 
 // A body's longitude at the epoch, the cycle's amount, and its motion a day, p / q forwards.
@@ -112,15 +121,32 @@ pub fn difference(a: u32, b: u32) -> u32
 }
 
 // K − C × D + A × p / q, with C and, for the node, A circles put on: C × (circle − D) and A × p forwards. What is rounded is not negative.
-fn longitude(body: usize, day: Day) -> u32
+fn longitude(body: usize, day: Day) -> MeanLongitude
     requires { ⌜ (body < 9) × (inRange day ≡ true) ⌝ }
-    ensures { λ r. ⌜ r ≡ longitudeAt body day ⌝ }
+    ensures { λ r. ⌜ r ≡ theLongitude body day ⌝ }
 {
     let row = TABLE[body];
     let turned = row.k + day.cycle * (CIRCLE - row.d);
-    let moved = day.within as u64 * row.p as u64 / row.q as u64;
-    let whole = turned as u64 + moved;
-    (whole % CIRCLE as u64) as u32
+    let divisor = row.q as u64;
+    let moved = day.within as u64 * row.p as u64;
+    let whole = turned as u64 + moved / divisor;
+    let seconds = (whole % CIRCLE as u64) as u32;
+    let remainder = (moved % divisor) as u32;
+    MeanLongitude {
+        refusal: refusal::NONE,
+        seconds,
+        remainder,
+        divisor: row.q,
+    }
+}
+
+// Sixtieths of a second in what was left over.
+fn thirds_of(remainder: u32, divisor: u32) -> u32
+    requires { ⌜ (remainder < divisor) × (divisor < 2000) ⌝ }
+    ensures { λ r. ⌜ r ≡ remainder * 60 / divisor ⌝ }
+{
+    let sixtieths = remainder * 60;
+    sixtieths / divisor
 }
 
 fn number(body: Body) -> usize
@@ -140,45 +166,67 @@ fn number(body: Body) -> usize
 }
 
 // One body's; with a constant body its row folds in.
-pub fn mean_longitude(body: Body, day: Day) -> NumberAnswer
+pub fn mean_longitude(body: Body, day: Day) -> MeanLongitude
     ensures { λ r. ⌜ r ≡ longitudeOf body day ⌝ }
 {
     if day.in_range() {
         let index = number(body);
-        let seconds = longitude(index, day);
-        NumberAnswer::accepted(seconds)
+        longitude(index, day)
+    } else {
+        MeanLongitude {
+            refusal: refusal::OUT_OF_RANGE,
+            seconds: 0,
+            remainder: 0,
+            divisor: 0,
+        }
+    }
+}
+
+// One body's thirds, sixtieths of a second.
+pub fn mean_thirds(body: Body, day: Day) -> NumberAnswer
+    ensures { λ r. ⌜ r ≡ thirdsOf body day ⌝ }
+{
+    if day.in_range() {
+        let at = number(body);
+        let found = longitude(at, day);
+        let thirds = thirds_of(found.remainder, found.divisor);
+        NumberAnswer::accepted(thirds)
     } else {
         NumberAnswer::OUT_OF_RANGE
     }
 }
 
-fn nine(day: Day) -> [u32; BODIES]
+fn nine(day: Day) -> MeanLongitudes
     requires { ⌜ inRange day ≡ true ⌝ }
-    ensures { λ r. ⌜ r ≡ longitudesAt day ⌝ }
+    ensures { λ r. ⌜ r ≡ longitudesOf day ⌝ }
 {
     let mut longitudes = [0u32; BODIES];
+    let mut thirds = [0u32; BODIES];
     let mut i = 0;
     while i < BODIES {
-        longitudes[i] = longitude(i, day);
+        let found = longitude(i, day);
+        longitudes[i] = found.seconds;
+        thirds[i] = thirds_of(found.remainder, found.divisor);
         i += 1;
     }
-    longitudes
+    MeanLongitudes {
+        refusal: refusal::NONE,
+        longitudes,
+        thirds,
+    }
 }
 
 pub fn mean_longitudes(day: Day) -> MeanLongitudes
     ensures { λ r. ⌜ r ≡ longitudesOf day ⌝ }
 {
     if day.in_range() {
-        let longitudes = nine(day);
-        MeanLongitudes {
-            refusal: refusal::NONE,
-            longitudes,
-        }
+        nine(day)
     } else {
-        let longitudes = [0u32; BODIES];
+        let zeros = [0u32; BODIES];
         MeanLongitudes {
             refusal: refusal::OUT_OF_RANGE,
-            longitudes,
+            longitudes: zeros,
+            thirds: zeros,
         }
     }
 }

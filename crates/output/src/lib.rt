@@ -41,9 +41,11 @@ pub fn say(line: Line) {
     write(STDERR_FILENO, line);
 }
 
-// To standard output; a write that fails is said.
-pub fn print(line: Line) {
-    if !write(STDOUT_FILENO, line) {
-        say(not_written());
+// To standard output, and whether all of it was written; a write that fails is said.
+pub fn print(line: Line) -> bool {
+    if write(STDOUT_FILENO, line) {
+        return true;
     }
+    say(not_written());
+    false
 }

@@ -1,23 +1,12 @@
 -- The words that a line begins with: the span, the weekday, the elements, and the bodies in paper 01's order.
 -- Assumes nothing.
-use mathlib.Core.List.{List, [], _∷_}
+use mathlib.Core.List.{List, [], _∷_, _++_}
 use Prim.Native.Nat.{ℕ}
 use Rattle.text.specs.Ascii.{ascii}
+use Rattle.words.specs.Names.{bodyNames}
+
+abbrev pub conditionNames : List (List ℕ)
+conditionNames = ascii "span" ∷ ascii "weekday" ∷ ascii "tithi" ∷ ascii "nakshatra" ∷ ascii "yoga" ∷ []
 
 abbrev pub keywords : List (List ℕ)
-keywords =
-    ascii "span"
-    ∷ ascii "weekday"
-    ∷ ascii "tithi"
-    ∷ ascii "nakshatra"
-    ∷ ascii "yoga"
-    ∷ ascii "sun"
-    ∷ ascii "moon"
-    ∷ ascii "apogee"
-    ∷ ascii "node"
-    ∷ ascii "mars"
-    ∷ ascii "mercury"
-    ∷ ascii "jupiter"
-    ∷ ascii "venus"
-    ∷ ascii "saturn"
-    ∷ []
+keywords = conditionNames ++ bodyNames

@@ -11,17 +11,19 @@ use values::nothing;
 use values::weekday;
 use words::after;
 use words::after_word;
+use words::body_place;
 use words::first_word;
 use words::place_in;
 use words::run_length;
 use words::up_to;
 ghost use mathlib.Core.Path.{_≡_};
 ghost use Prim.Native.Nat.{_<_};
+ghost use Rattle.words.specs.Words.{placeIn};
+ghost use Rattle.page.specs.Names.{keywords};
 ghost use Rattle.page.specs.Page.{keywordCount, onlySpan, withCondition, rankOf, ranksBefore, firstRefusal, firstValue, secondValue, malformedLine, conditionRead, lineRead, firstFault, withFault, withLine, emptyPage, pageAnswer, pageRead};
 
-// The words that a line begins with, each known by its place among them.
-const KEYWORDS: [u8; 88] =
-    *b"span weekday tithi nakshatra yoga sun moon apogee node mars mercury jupiter venus saturn";
+// The words that a line begins with, and behind them the names of the bodies; each is known by its place among them all.
+const CONDITIONS: [u8; 33] = *b"span weekday tithi nakshatra yoga";
 
 const SPAN: usize = 0;
 
@@ -236,6 +238,17 @@ fn condition(keyword: usize, first: NumberAnswer, second: NumberAnswer) -> LineR
     }
 }
 
+// A word's place among the keywords; KEYWORD_COUNT for a word that is none.
+fn keyword_of(word: &[u8]) -> usize
+    ensures { λ r. ⌜ r ≡ placeIn keywords (now (word .entry)) ⌝ }
+{
+    let place = place_in(&CONDITIONS, word);
+    if place < ARCS {
+        return place;
+    }
+    ARCS + body_place(word)
+}
+
 fn read_line(line: &[u8]) -> LineRead
     ensures { λ r. ⌜ r ≡ lineRead (now (line .entry)) ⌝ }
 {
@@ -250,7 +263,7 @@ fn read_line(line: &[u8]) -> LineRead
             second: 0,
         };
     }
-    let keyword = place_in(&KEYWORDS, name);
+    let keyword = keyword_of(name);
     if KEYWORD_COUNT <= keyword {
         return malformed(UNKNOWN_WORD);
     }

@@ -85,7 +85,7 @@ fn mean_on(body: Body, day: Day) -> u32
     ensures { λ r. ⌜ (r ≡ longitudeAt (bodyNumber body) day) × (r < 1296000) ⌝ }
 {
     let mean = longitudes::mean_longitude(body, day);
-    mean.number % CIRCLE
+    mean.seconds % CIRCLE
 }
 
 fn sun_on(day: Day) -> u32

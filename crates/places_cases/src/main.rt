@@ -4,6 +4,7 @@ use days::Day;
 use days::NumberAnswer;
 use libc::STDOUT_FILENO;
 use longitudes::Body;
+use longitudes::MeanLongitude;
 
 const COUNT: usize = 24;
 
@@ -47,15 +48,34 @@ fn show_single(answer: NumberAnswer) {
     io::print_decimal(STDOUT_FILENO, answer.number as u64);
 }
 
+fn show_nine(numbers: [u32; longitudes::BODIES]) {
+    let mut i = 0;
+    while i < longitudes::BODIES {
+        show(numbers[i]);
+        i += 1;
+    }
+}
+
 fn show_longitudes(day: Day) {
     let all = longitudes::mean_longitudes(day);
     show(all.refusal);
     let nine = all.longitudes;
-    let mut i = 0;
-    while i < longitudes::BODIES {
-        show(nine[i]);
-        i += 1;
-    }
+    show_nine(nine);
+}
+
+// The seconds, and in `show_remainder` what was left over.
+fn show_seconds(answer: MeanLongitude) {
+    show_single(NumberAnswer {
+        refusal: answer.refusal,
+        number: answer.seconds,
+    });
+}
+
+fn show_remainder(answer: MeanLongitude) {
+    io::write_all(STDOUT_FILENO, b" ");
+    io::print_decimal(STDOUT_FILENO, answer.remainder as u64);
+    io::write_all(STDOUT_FILENO, b"/");
+    io::print_decimal(STDOUT_FILENO, answer.divisor as u64);
 }
 
 fn show_panchanga(day: Day) {
@@ -70,21 +90,48 @@ fn show_panchanga(day: Day) {
 }
 
 fn show_singles(day: Day) {
-    show_single(longitudes::mean_longitude(Body::Sun, day));
-    show_single(longitudes::mean_longitude(Body::Moon, day));
-    show_single(longitudes::mean_longitude(Body::MoonApogee, day));
-    show_single(longitudes::mean_longitude(Body::MoonNode, day));
-    show_single(longitudes::mean_longitude(Body::Mars, day));
-    show_single(longitudes::mean_longitude(Body::MercuryAnomaly, day));
-    show_single(longitudes::mean_longitude(Body::Jupiter, day));
-    show_single(longitudes::mean_longitude(Body::VenusAnomaly, day));
-    show_single(longitudes::mean_longitude(Body::Saturn, day));
+    show_seconds(longitudes::mean_longitude(Body::Sun, day));
+    show_seconds(longitudes::mean_longitude(Body::Moon, day));
+    show_seconds(longitudes::mean_longitude(Body::MoonApogee, day));
+    show_seconds(longitudes::mean_longitude(Body::MoonNode, day));
+    show_seconds(longitudes::mean_longitude(Body::Mars, day));
+    show_seconds(longitudes::mean_longitude(Body::MercuryAnomaly, day));
+    show_seconds(longitudes::mean_longitude(Body::Jupiter, day));
+    show_seconds(longitudes::mean_longitude(Body::VenusAnomaly, day));
+    show_seconds(longitudes::mean_longitude(Body::Saturn, day));
     show_single(panchanga::true_sun(day));
     show_single(panchanga::true_moon(day));
     show_single(panchanga::tithi(day));
     show_single(panchanga::nakshatra(day));
     show_single(panchanga::yoga(day));
     show_single(panchanga::karana(day));
+}
+
+fn show_remainders(day: Day) {
+    show_remainder(longitudes::mean_longitude(Body::Sun, day));
+    show_remainder(longitudes::mean_longitude(Body::Moon, day));
+    show_remainder(longitudes::mean_longitude(Body::MoonApogee, day));
+    show_remainder(longitudes::mean_longitude(Body::MoonNode, day));
+    show_remainder(longitudes::mean_longitude(Body::Mars, day));
+    show_remainder(longitudes::mean_longitude(Body::MercuryAnomaly, day));
+    show_remainder(longitudes::mean_longitude(Body::Jupiter, day));
+    show_remainder(longitudes::mean_longitude(Body::VenusAnomaly, day));
+    show_remainder(longitudes::mean_longitude(Body::Saturn, day));
+}
+
+fn show_thirds(day: Day) {
+    let all = longitudes::mean_longitudes(day);
+    let nine = all.thirds;
+    show_nine(nine);
+    show_single(longitudes::mean_thirds(Body::Sun, day));
+    show_single(longitudes::mean_thirds(Body::Moon, day));
+    show_single(longitudes::mean_thirds(Body::MoonApogee, day));
+    show_single(longitudes::mean_thirds(Body::MoonNode, day));
+    show_single(longitudes::mean_thirds(Body::Mars, day));
+    show_single(longitudes::mean_thirds(Body::MercuryAnomaly, day));
+    show_single(longitudes::mean_thirds(Body::Jupiter, day));
+    show_single(longitudes::mean_thirds(Body::VenusAnomaly, day));
+    show_single(longitudes::mean_thirds(Body::Saturn, day));
 }
 
 fn show_day(number: u32) {
@@ -96,6 +143,8 @@ fn show_day(number: u32) {
     show_longitudes(day);
     show_panchanga(day);
     show_singles(day);
+    show_remainders(day);
+    show_thirds(day);
     io::write_all(STDOUT_FILENO, b"\n");
 }
 

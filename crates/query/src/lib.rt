@@ -150,7 +150,7 @@ fn in_arc(arc: Arc, body: Body, day: Day) -> bool
 {
     if arc.given {
         let found = longitudes::mean_longitude(body, day);
-        let past = longitudes::difference(found.number, arc.start);
+        let past = longitudes::difference(found.seconds, arc.start);
         past < arc.width
     } else {
         true

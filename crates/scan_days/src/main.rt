@@ -45,7 +45,7 @@ fn show_visit(day: u32, seen: Examined) {
     let pair = Day::from_number(day);
     let sun = longitudes::mean_longitude(Body::Sun, pair.day);
     print(day, b" ");
-    print(sun.number, b" ");
+    print(sun.seconds, b" ");
     print(seen.matches as u32, b" ");
     print(seen.next, b"\n");
 }

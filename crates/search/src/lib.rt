@@ -145,7 +145,7 @@ fn examine_any_day(query: Query, day: u32) -> Examined
         return Examined::accepted(query::others_met(query, pair), day + 1);
     }
     let sun = longitudes::mean_longitude(Body::Sun, pair);
-    let past = longitudes::difference(sun.number, arc.start);
+    let past = longitudes::difference(sun.seconds, arc.start);
     if past < arc.width {
         if !weekday_met(asked, day) {
             return Examined::accepted(false, day + 1);

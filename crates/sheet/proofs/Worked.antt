@@ -9,12 +9,13 @@ use Rattle.panchanga.specs.OnDays.{trueSunAt, trueMoonAt, tithiAt, nakshatraAt,
 use Rattle.text.specs.Ascii.{ascii}
 use Rattle.text.specs.Decimal.{isDigit, allDigits, withDigit, valueOf, isNumber, numberRead, digitsWithin, digitsOf}
 use Rattle.text.specs.Lines.{spaced, refusalLine}
-use Rattle.sheet.specs.Sheets.{sheetHeading, columns, twoLines, sheetOfNumber, isLine, inputRead, sheetOf}
+use Rattle.text.specs.Inputs.{isLine, inputRead, dayInput}
+use Rattle.sheet.specs.Sheets.{sheetHeading, columns, twoLines, sheetOf}
 
 pub printed :
     sheetOf (ascii "33649\n")
     ≡ ascii "day cycle within weekday sun moon tithi nakshatra yoga karana\n33649 8 1521 0 128648 737042 14 15 18 7\n"
-unfolding sheetOf sheetOfNumber twoLines columns sheetHeading spaced inputRead isLine numberRead isNumber allDigits isDigit valueOf withDigit digitsOf digitsWithin trueSunAt trueMoonAt tithiAt nakshatraAt yogaAt karanaAt karanaAfter trueLongitude corrected signed equation bhuja differenceOf longitudeAt meanLongitude table floorOver reduced
+unfolding sheetOf twoLines columns sheetHeading spaced dayInput inputRead isLine numberRead isNumber allDigits isDigit valueOf withDigit digitsOf digitsWithin trueSunAt trueMoonAt tithiAt nakshatraAt yogaAt karanaAt karanaAfter trueLongitude corrected signed equation bhuja differenceOf longitudeAt meanLongitude table floorOver reduced
 printed = refl
 
 -- nothing, no digit, no newline, no number, too many digits, and no such day
@@ -27,5 +28,5 @@ pub refused :
     ∷ sheetOf (ascii "401600\n")
     ∷ []
     ≡ ascii "refused 3\n" ∷ ascii "refused 3\n" ∷ ascii "refused 3\n" ∷ ascii "refused 3\n" ∷ ascii "refused 3\n" ∷ ascii "refused 2\n" ∷ []
-unfolding sheetOf sheetOfNumber refusalLine inputRead isLine numberRead isNumber allDigits isDigit valueOf withDigit digitsOf digitsWithin
+unfolding sheetOf refusalLine dayInput inputRead isLine numberRead isNumber allDigits isDigit valueOf withDigit digitsOf digitsWithin
 refused = refl

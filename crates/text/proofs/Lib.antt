@@ -1,5 +1,6 @@
 pub mod Printing
 pub mod Reading
+pub mod Inputs
 pub mod RoundTrip
 pub mod Backwards
 pub mod Lines

@@ -1,11 +1,16 @@
-// Decimal numbers and lines of output: a number is read and printed by one function each.
+// Decimal numbers, days as input, and lines of output: a number is read and printed by one function each.
+use days::Day;
 use days::NumberAnswer;
 use days::refusal;
 ghost use mathlib.Core.Path.{_≡_};
 ghost use Prim.Native.Nat.{_≤_};
 ghost use lib.ListN.{length, drop};
 ghost use Rattle.text.specs.Decimal.{numberRead, digitsOf};
+ghost use Rattle.text.specs.Inputs.{inputRead, dayInput};
 ghost use Rattle.text.specs.Lines.{emptyLine, withByte, withBytes, spaced, Holds, refusalLine};
+
+// The most digits of a day's number.
+const DAY_DIGITS: usize = 6;
 
 // A line being made: its contents are the first len bytes.
 pub struct Line {
@@ -43,6 +48,37 @@ pub fn read_decimal(digits: &[u8]) -> NumberAnswer
         i += 1;
     }
     NumberAnswer::accepted(number)
+}
+
+// The number of an input that is 1 to 6 decimal digits and one newline.
+fn read_line(input: &[u8]) -> NumberAnswer
+    ensures { λ r. ⌜ r ≡ inputRead (now (input .entry)) ⌝ }
+{
+    if input.len() == 0 {
+        return NumberAnswer::refused(refusal::BAD_INPUT);
+    }
+    let digits = input.len() - 1;
+    if DAY_DIGITS < digits {
+        return NumberAnswer::refused(refusal::BAD_INPUT);
+    }
+    if input[digits] != b'\n' {
+        return NumberAnswer::refused(refusal::BAD_INPUT);
+    }
+    read_decimal(&input[..digits])
+}
+
+// The day's number in such an input.
+pub fn read_day(input: &[u8]) -> NumberAnswer
+    ensures { λ r. ⌜ r ≡ dayInput (now (input .entry)) ⌝ }
+{
+    let read = read_line(input);
+    if read.refusal != refusal::NONE {
+        return read;
+    }
+    if Day::LAST < read.number {
+        return NumberAnswer::OUT_OF_RANGE;
+    }
+    NumberAnswer::accepted(read.number)
 }
 
 // The digits are found from the last, so they are written backwards.

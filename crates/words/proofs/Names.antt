@@ -1,11 +1,11 @@
 -- The name at a place, found piece by piece: after the first separator, each name's place is one less. Assumes nothing.
 use mathlib.Core.Path.{_≡_, refl, ap, sym, _∙_}
-use mathlib.Core.Bool.{Bool, true, false}
-use mathlib.Core.List.{List, []}
+use mathlib.Core.Bool.{Bool, true, false, _&&_, and-eq-true-iff}
+use mathlib.Core.List.{List, [], _∷_}
 use Prim.Native.Nat.{ℕ, zero, suc, _-_, _≤_, _<_}
 use native.Mathlib.Omega.{arith}
-use borrow.Author.Tests.{ltb-false}
-use lib.Dec.{ltb}
+use borrow.Author.Tests.{ltb-false, leb-true}
+use lib.Dec.{ltb, leb}
 use lib.ListN.{length, drop-of-length-le}
 use Rattle.text.specs.Lines.{space}
 use Rattle.words.specs.Words.{runLength, upTo, afterFirst, pieces, nameAt}
@@ -57,3 +57,14 @@ pub naming-end :
     upTo space rest ≡ nameAt (pieces space names) place
 naming-end names place zero rest p h = sym (name-first rest) ∙ p
 naming-end names place (suc left) rest p h = absurd (omega arith)
+
+-- each of some names has at most so many bytes: one test over them all
+unfoldable pub noLonger : ℕ → List (List ℕ) → Bool
+noLonger most [] = true
+noLonger most (n ∷ ns) = leb (length n) most && noLonger most ns
+
+pub name-length : (most : ℕ) (ns : List (List ℕ)) → noLonger most ns ≡ true → (k : ℕ) → length (nameAt ns k) ≤ most
+unfolding nameAt noLonger
+name-length most [] e k = omega arith
+name-length most (n ∷ ns) e zero = leb-true (length n) most (and-eq-true-iff (leb (length n) most) (noLonger most ns) .0 e .0)
+name-length most (n ∷ ns) e (suc k) = name-length most ns (and-eq-true-iff (leb (length n) most) (noLonger most ns) .0 e .1) k

@@ -1,8 +1,8 @@
 -- The place of a word among names, found piece by piece: before each piece, the names passed are others, and the word's
 -- place among those ahead is what is left to count. Assumes nothing.
 use mathlib.Core.Path.{_≡_, refl, ap, sym, _∙_}
-use mathlib.Core.Bool.{Bool, true, false, false≢true, and-eq-true-iff}
-use mathlib.Core.List.{List, [], _∷_}
+use mathlib.Core.Bool.{Bool, true, false, cond, false≢true, and-eq-true-iff}
+use mathlib.Core.List.{List, [], _∷_, _++_}
 use Prim.Native.Nat.{ℕ, suc, _+_, _≤_, _<_}
 use native.Mathlib.Omega.{arith}
 use borrow.Author.Tests.{eqb-true, eq-eqb}
@@ -93,3 +93,31 @@ module _ (names word : List ℕ) (place : ℕ) (rest : List ℕ) (p : Placing na
       let later = place-later first (pieces space (afterFirst space rest)) word e in
       let split = ap (λ ps. placeIn ps word) (pieces-more space rest some) in
       record { count = omega (arith, p .count); room = omega (arith, p .room, after-shorter space rest more) }
+
+pub place-most : (ns : List (List ℕ)) (w : List ℕ) → placeIn ns w ≤ length ns
+unfolding placeIn
+place-most [] w = omega arith
+place-most (n ∷ ns) w = go (sameBytes n w) (place-most ns w)
+  where
+    go : (t : Bool) → placeIn ns w ≤ length ns → cond t 0 (suc (placeIn ns w)) ≤ suc (length ns)
+    go true h = omega arith
+    go false h = omega arith
+
+-- the place among the names of two lists, one behind the other
+pub place-before : (ms ns : List (List ℕ)) (w : List ℕ) → placeIn ms w < length ms → placeIn ms w ≡ placeIn (ms ++ ns) w
+unfolding placeIn
+place-before [] ns w h = absurd (omega arith)
+place-before (m ∷ ms) ns w h = go (sameBytes m w) refl (place-before ms ns w)
+  where
+    go : (t : Bool) → sameBytes m w ≡ t → (placeIn ms w < length ms → placeIn ms w ≡ placeIn (ms ++ ns) w) → cond (sameBytes m w) 0 (suc (placeIn ms w)) ≡ cond (sameBytes m w) 0 (suc (placeIn (ms ++ ns) w))
+    go true e f = rw e
+    go false e f = rw e (ap suc (f (omega (arith, rw e at h))))
+
+pub place-behind : (ms ns : List (List ℕ)) (w : List ℕ) → length ms ≤ placeIn ms w → length ms + placeIn ns w ≡ placeIn (ms ++ ns) w
+unfolding placeIn
+place-behind [] ns w h = omega arith
+place-behind (m ∷ ms) ns w h = go (sameBytes m w) refl (place-behind ms ns w)
+  where
+    go : (t : Bool) → sameBytes m w ≡ t → (length ms ≤ placeIn ms w → length ms + placeIn ns w ≡ placeIn (ms ++ ns) w) → suc (length ms) + placeIn ns w ≡ cond (sameBytes m w) 0 (suc (placeIn (ms ++ ns) w))
+    go true e f = absurd (omega (arith, rw e at h))
+    go false e f = rw e (omega (arith, f (omega (arith, rw e at h))))

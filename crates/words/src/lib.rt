@@ -1,10 +1,12 @@
-// How a text is split into lines, and a line into words; the weekdays by name.
+// How a text is split into lines, and a line into words; the weekdays and the bodies by name.
 ghost use mathlib.Core.Path.{_≡_};
 ghost use Rattle.text.specs.Lines.{space};
-ghost use Rattle.words.specs.Names.{weekdayNames};
+ghost use Rattle.words.specs.Names.{weekdayNames, bodyNames};
 ghost use Rattle.words.specs.Words.{isSeparator, inRun, runLength, upTo, afterFirst, trimmed, firstWord, afterWord, pieces, placeIn, nameAt};
 
 pub const WEEKDAYS: [u8; 56] = *b"monday tuesday wednesday thursday friday saturday sunday";
+
+pub const BODIES: [u8; 54] = *b"sun moon apogee node mars mercury jupiter venus saturn";
 
 // Where the separator is a space, a tab and a carriage return separate too.
 fn separates(separator: u8, b: u8) -> bool
@@ -125,4 +127,11 @@ pub fn weekday_place(word: &[u8]) -> usize
     ensures { λ r. ⌜ r ≡ placeIn weekdayNames (now (word .entry)) ⌝ }
 {
     place_in(&WEEKDAYS, word)
+}
+
+// The place of a body's name, 0 for sun; 9 for a word that is none.
+pub fn body_place(word: &[u8]) -> usize
+    ensures { λ r. ⌜ r ≡ placeIn bodyNames (now (word .entry)) ⌝ }
+{
+    place_in(&BODIES, word)
 }

@@ -3,9 +3,9 @@ use borrow.Author.Needs.{needs}
 use mathlib.Core.Bool.{true}
 use mathlib.Core.Path.{_≡_, sym, ap, _∙_}
 use Prim.Native.Nat.{ℕ}
-use Rattle.days.specs.Days.{inRange, theNumber}
-use Rattle.longitudes.specs.Longitudes.{longitudeAt}
-use Rattle.days.proofs.Laws.{given, refused}
+use Rattle.days.specs.Days.{inRange}
+use Rattle.longitudes.specs.Answers.{theLongitude}
+use Rattle.longitudes.proofs.Answers.{longitude-given, longitude-refused}
 use Rattle.longitudes.proofs.mean_longitude.Statement.{statement}
 use Rattle.longitudes.proofs.mean_longitude.Tie as tie
 
@@ -21,18 +21,14 @@ number-requires c κs = search needs
 longitude-requires : tie.Need-longitude-requires
 longitude-requires c κs = (c .number .ensures .1, ok (c .before))
 
-accepted-requires : tie.Need-accepted-requires
-accepted-requires c κs = search needs
-
 returns : tie.Need-returns
 returns c =
-    c .accepted .ensures
-    ∙ ap theNumber (c .before .longitude .ensures ∙ ap (λ (b : ℕ). longitudeAt b (c .before .before .before .before .before .args .day)) (c .before .before .number .ensures .0))
-    ∙ sym (given _ _ (ok (c .before .before .before)))
+    c .longitude .ensures
+    ∙ ap (λ (b : ℕ). theLongitude b (c .before .before .before .before .args .day)) (c .before .number .ensures .0)
+    ∙ sym (longitude-given _ _ (ok (c .before .before)))
 
 returns-2 : tie.Need-returns-2
-returns-2 c = sym (refused _ _ (sym (c .before .in-range .ensures) ∙ c .if1 .left))
+returns-2 c = sym (longitude-refused _ _ (sym (c .before .in-range .ensures) ∙ c .if1 .left))
 
 pub mean-longitude-spec : {M : Type 1} → statement M
-mean-longitude-spec =
-    tie.close (tie.spec in-range-requires number-requires longitude-requires accepted-requires returns returns-2)
+mean-longitude-spec = tie.close (tie.spec in-range-requires number-requires longitude-requires returns returns-2)

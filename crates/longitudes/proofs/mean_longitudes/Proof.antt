@@ -1,24 +1,18 @@
 -- `mean_longitudes` meets its contract: `in_range` tells which answer it is.
 use borrow.Author.Needs.{needs}
-use mathlib.Core.Bool.{true}
-use mathlib.Core.Path.{_≡_, sym, _∙_}
-use Rattle.days.specs.Days.{inRange}
+use mathlib.Core.Path.{sym, _∙_}
 use Rattle.longitudes.specs.Answers.{longitudesOf}
 use Rattle.longitudes.proofs.mean_longitudes.Statement.{statement}
 use Rattle.longitudes.proofs.mean_longitudes.Tie as tie
-
-ok : (c : tie.Then1) → inRange (c .before .before .args .day) ≡ true
-ok c = sym (c .before .in-range .ensures) ∙ c .if1 .taken
 
 in-range-requires : tie.Need-in-range-requires
 in-range-requires c κs = search needs
 
 nine-requires : tie.Need-nine-requires
-nine-requires c κs = ok c
+nine-requires c κs = sym (c .before .in-range .ensures) ∙ c .if1 .taken
 
 returns : tie.Need-returns
-unfolding longitudesOf
-returns c = rw (ok (c .before), c .nine .ensures)
+returns c = search needs
 
 returns-2 : tie.Need-returns-2
 unfolding longitudesOf

@@ -1,7 +1,6 @@
 -- `read_line` meets its contract: its answers, case by case, are those of its words. Assumes nothing.
 use mathlib.Core.Path.{refl, _∙_}
 use borrow.Author.Needs.{needs}
-use Rattle.words.specs.Words.{pieces, isSeparator, inFront}
 use Rattle.page.proofs.Grammar.{words-are, words-blank, words-unknown, words-many, words-condition, values-are}
 use Rattle.page.proofs.read_line.Statement.{statement}
 use Rattle.page.proofs.read_line.Tie as tie
@@ -15,18 +14,14 @@ first-word-requires c κs = search needs
 returns : tie.Need-returns
 returns c = words-blank _ _ _ _ (c .if1 .taken) ∙ words-are _ _ _ _ _ _ _ _ _ (c .before .before .up-to .ensures) (c .before .first-word .ensures) refl refl refl refl refl refl
 
-slice-aggregate-place-in : tie.Need-slice-aggregate-place-in
-slice-aggregate-place-in c = search needs
-
-place-in-requires : tie.Need-place-in-requires
-place-in-requires c κs = search needs
+keyword-of-requires : tie.Need-keyword-of-requires
+keyword-of-requires c κs = search needs
 
 malformed-requires : tie.Need-malformed-requires
 malformed-requires c κs = search needs
 
 returns-2 : tie.Need-returns-2
-unfolding pieces isSeparator inFront
-returns-2 c = c .malformed .ensures ∙ words-unknown _ _ _ _ _ (c .before .before .before .before .if1 .left) (c .before .before .place-in .ensures) (c .before .if2 .taken) ∙ words-are _ _ _ _ _ _ _ _ _ (c .before .before .before .before .before .before .up-to .ensures) (c .before .before .before .before .before .first-word .ensures) refl refl refl refl refl refl
+returns-2 c = c .malformed .ensures ∙ words-unknown _ _ _ _ _ (c .before .before .before .if1 .left) (c .before .before .keyword-of .ensures) (c .before .if2 .taken) ∙ words-are _ _ _ _ _ _ _ _ _ (c .before .before .before .before .before .up-to .ensures) (c .before .before .before .before .first-word .ensures) refl refl refl refl refl refl
 
 after-word-requires : tie.Need-after-word-requires
 after-word-requires c κs = search needs
@@ -44,8 +39,7 @@ malformed-requires-2 : tie.Need-malformed-requires-2
 malformed-requires-2 c κs = search needs
 
 returns-3 : tie.Need-returns-3
-unfolding pieces isSeparator inFront
-returns-3 c = c .malformed2 .ensures ∙ words-many _ _ _ _ _ (c .before .before .before .before .before .before .before .before .before .if1 .left) (c .before .before .before .before .before .before .before .place-in .ensures) (c .before .before .before .before .before .before .if2 .left) (c .before .if3 .taken) ∙ words-are _ _ _ _ _ _ _ _ _ (c .before .before .before .before .before .before .before .before .before .before .before .up-to .ensures) (c .before .before .before .before .before .before .before .before .before .before .first-word .ensures) (c .before .before .before .before .before .after-word .ensures) refl (c .before .before .before .before .after-word2 .ensures) refl (c .before .before .before .after-word3 .ensures) (c .before .before .first-word2 .ensures)
+returns-3 c = c .malformed2 .ensures ∙ words-many _ _ _ _ _ (c .before .before .before .before .before .before .before .before .if1 .left) (c .before .before .before .before .before .before .before .keyword-of .ensures) (c .before .before .before .before .before .before .if2 .left) (c .before .if3 .taken) ∙ words-are _ _ _ _ _ _ _ _ _ (c .before .before .before .before .before .before .before .before .before .before .up-to .ensures) (c .before .before .before .before .before .before .before .before .before .first-word .ensures) (c .before .before .before .before .before .after-word .ensures) refl (c .before .before .before .before .after-word2 .ensures) refl (c .before .before .before .after-word3 .ensures) (c .before .before .first-word2 .ensures)
 
 first-word-requires-3 : tie.Need-first-word-requires-3
 first-word-requires-3 c κs = search needs
@@ -63,8 +57,7 @@ condition-requires : tie.Need-condition-requires
 condition-requires c κs = c .before .before .before .before .before .before .before .before .before .if2 .left
 
 returns-4 : tie.Need-returns-4
-unfolding pieces isSeparator inFront
-returns-4 c = c .condition .ensures ∙ values-are _ _ _ _ _ (c .before .before .before .first-value .ensures) (c .before .second-value .ensures) ∙ words-condition _ _ _ _ _ (c .before .before .before .before .before .before .before .before .before .before .before .before .before .if1 .left) (c .before .before .before .before .before .before .before .before .before .before .before .place-in .ensures) (c .before .before .before .before .before .before .before .before .before .before .if2 .left) (c .before .before .before .before .before .if3 .left) ∙ words-are _ _ _ _ _ _ _ _ _ (c .before .before .before .before .before .before .before .before .before .before .before .before .before .before .before .up-to .ensures) (c .before .before .before .before .before .before .before .before .before .before .before .before .before .before .first-word .ensures) (c .before .before .before .before .before .before .before .before .before .after-word .ensures) (c .before .before .before .before .first-word3 .ensures) (c .before .before .before .before .before .before .before .before .after-word2 .ensures) (c .before .before .first-word4 .ensures) (c .before .before .before .before .before .before .before .after-word3 .ensures) (c .before .before .before .before .before .before .first-word2 .ensures)
+returns-4 c = c .condition .ensures ∙ values-are _ _ _ _ _ (c .before .before .before .first-value .ensures) (c .before .second-value .ensures) ∙ words-condition _ _ _ _ _ (c .before .before .before .before .before .before .before .before .before .before .before .before .if1 .left) (c .before .before .before .before .before .before .before .before .before .before .before .keyword-of .ensures) (c .before .before .before .before .before .before .before .before .before .before .if2 .left) (c .before .before .before .before .before .if3 .left) ∙ words-are _ _ _ _ _ _ _ _ _ (c .before .before .before .before .before .before .before .before .before .before .before .before .before .before .up-to .ensures) (c .before .before .before .before .before .before .before .before .before .before .before .before .before .first-word .ensures) (c .before .before .before .before .before .before .before .before .before .after-word .ensures) (c .before .before .before .before .first-word3 .ensures) (c .before .before .before .before .before .before .before .before .after-word2 .ensures) (c .before .before .first-word4 .ensures) (c .before .before .before .before .before .before .before .after-word3 .ensures) (c .before .before .before .before .before .before .first-word2 .ensures)
 
 pub read-line-spec : {M : Type 1} → statement M
 read-line-spec =
@@ -73,8 +66,7 @@ read-line-spec =
     up-to-requires
     first-word-requires
     returns
-    slice-aggregate-place-in
-    place-in-requires
+    keyword-of-requires
     malformed-requires
     returns-2
     after-word-requires

@@ -2,9 +2,8 @@
 use borrow.Author.Needs.{needs}
 use mathlib.Core.Path.{ap, _∙_}
 use Prim.Native.Nat.{ℕ}
-use Rattle.days.proofs.Laws.{given-number}
-use Rattle.longitudes.specs.Longitudes.{differenceOf, longitudeAt}
-use Rattle.longitudes.specs.Answers.{bodyNumber}
+use Rattle.longitudes.specs.Longitudes.{differenceOf}
+use Rattle.longitudes.proofs.Answers.{given-seconds}
 use Rattle.query.specs.Conditions.{inArc}
 use Rattle.query.proofs.in_arc.Statement.{statement}
 use Rattle.query.proofs.in_arc.Tie as tie
@@ -19,7 +18,7 @@ returns : tie.Need-returns
 unfolding inArc
 returns c =
     let a = c .before .before .before .before .args in
-    let sun = given-number (longitudeAt (bodyNumber (a .body))) (a .day) (c .before .before .mean-longitude .ensures) (c .before .before .before .before .pre) in
+    let sun = given-seconds (a .body) (a .day) (c .before .before .mean-longitude .ensures) (c .before .before .before .before .pre) in
     rw (c .before .before .before .if1 .taken, c .before .difference .ensures ∙ ap (λ (x : ℕ). differenceOf x (a .arc .start)) sun)
 
 returns-2 : tie.Need-returns-2

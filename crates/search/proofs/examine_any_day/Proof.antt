@@ -4,9 +4,10 @@ use borrow.Author.Tests.{not-true, not-false}
 use mathlib.Core.Path.{_≡_, ap, _∙_}
 use native.Mathlib.Omega.{arith}
 use Prim.Native.Nat.{ℕ}
-use Rattle.days.proofs.Laws.{ThatDay, that-day, no-such-day, past-last, given-number}
+use Rattle.days.proofs.Laws.{ThatDay, that-day, no-such-day, past-last}
 use Rattle.longitudes.specs.Longitudes.{differenceOf, longitudeAt}
 use Rattle.query.specs.Query.{sunArc}
+use Rattle.longitudes.proofs.Answers.{given-seconds}
 use Rattle.longitudes.proofs.Subtraction.{is-small}
 use Rattle.search.proofs.Circle.{past}
 use Rattle.search.proofs.Arc.{no-arc, past-in}
@@ -80,7 +81,7 @@ distance : (c : tie.After-difference) → c .difference .result ≡ past (sunArc
 distance c =
     let k = day (c .before .before .before .before .before .before .before .before) in
     c .difference .ensures
-    ∙ ap (λ (x : ℕ). differenceOf x (sunArc (c .before .before .before .before .before .before .before .before .before .before .before .args .t1) .start)) (given-number (longitudeAt 0) _ (c .before .mean-longitude .ensures) (k .range) ∙ ap (longitudeAt 0) (k .pair))
+    ∙ ap (λ (x : ℕ). differenceOf x (sunArc (c .before .before .before .before .before .before .before .before .before .before .before .args .t1) .start)) (given-seconds _ _ (c .before .mean-longitude .ensures) (k .range) ∙ ap (longitudeAt 0) (k .pair))
 
 inside-2 : (c : tie.Then5) → Inside (c .before .before .before .before .before .before .before .before .before .before .before .before .before .args .t1) (c .before .before .before .before .before .before .before .before .before .before .before .before .before .args .day) (c .before .before .before .before .before .before .before .before .before .before .before .before .from-number .result .day)
 inside-2 c =

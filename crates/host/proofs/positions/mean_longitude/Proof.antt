@@ -1,7 +1,10 @@
 -- `mean_longitude` meets its contract: a number of the pair is the number of the day.
 use borrow.Author.Needs.{needs}
+use mathlib.Core.Path.{refl, ap, _∙_}
+use Rattle.longitudes.specs.declared.MeanLongitude.{MeanLongitude}
 use Rattle.longitudes.specs.Longitudes.{longitudeAt}
 use Rattle.longitudes.specs.Answers.{bodyNumber}
+use Rattle.longitudes.proofs.Answers.{seconds-on-day}
 use Rattle.host.proofs.OnNumbers.{on-number}
 use Rattle.host.proofs.positions.mean_longitude.Statement.{statement}
 use Rattle.host.proofs.positions.mean_longitude.Tie as tie
@@ -13,7 +16,10 @@ mean-longitude-requires : tie.Need-mean-longitude-requires
 mean-longitude-requires c κs = search needs
 
 returns : tie.Need-returns
-returns c = on-number (longitudeAt (bodyNumber (c .before .before .args .body))) _ (c .before .pair .ensures) (c .mean-longitude .ensures)
+returns c =
+    ap (λ (a : MeanLongitude). a .seconds) (c .mean-longitude .ensures)
+    ∙ seconds-on-day _ _
+    ∙ on-number (longitudeAt (bodyNumber (c .before .before .args .body))) _ (c .before .pair .ensures) refl
 
 pub mean-longitude-spec : {M : Type 1} → statement M
 mean-longitude-spec = tie.close (tie.spec pair-requires mean-longitude-requires returns)

@@ -1,20 +1,14 @@
--- `show_longitudes` ends: `i` counts the nine.
+-- `show_nine` ends: `i` counts the nine.
 use borrow.Author.Needs.{needs}
 use Prim.Native.Nat.{_-_, _≤_}
-use Rattle.places_cases.proofs.show_longitudes.Statement.{statement}
-use Rattle.places_cases.proofs.show_longitudes.Tie as tie
+use Rattle.places_cases.proofs.show_nine.Statement.{statement}
+use Rattle.places_cases.proofs.show_nine.Tie as tie
 
 abbrev Inv-loop : tie.InvT-loop
 Inv-loop nine i₀ i = i ≤ 9
 
 abbrev μ-loop : tie.MeasureT-loop
 μ-loop nine i₀ i = 9 - i
-
-mean-longitudes-requires : tie.Need-mean-longitudes-requires Inv-loop μ-loop
-mean-longitudes-requires c κs = search needs
-
-show-requires : tie.Need-show-requires Inv-loop μ-loop
-show-requires c κs = search needs
 
 loop-holds : tie.Need-loop-holds Inv-loop μ-loop
 loop-holds c = search needs
@@ -25,8 +19,8 @@ mul-show c = search needs
 array-read-show : tie.Need-array-read-show Inv-loop μ-loop
 array-read-show c = search needs
 
-show-requires-2 : tie.Need-show-requires-2 Inv-loop μ-loop
-show-requires-2 c κs = search needs
+show-requires : tie.Need-show-requires Inv-loop μ-loop
+show-requires c κs = search needs
 
 add-i : tie.Need-add-i Inv-loop μ-loop
 add-i c = search needs
@@ -40,18 +34,16 @@ loop-again c = search needs
 returns : tie.Need-returns Inv-loop μ-loop
 returns c = search needs
 
-pub show-longitudes-spec : {M : Type 1} → statement M
-show-longitudes-spec =
+pub show-nine-spec : {M : Type 1} → statement M
+show-nine-spec =
     tie.close
     (tie.spec
     Inv-loop
     μ-loop
-    mean-longitudes-requires
-    show-requires
     loop-holds
     mul-show
     array-read-show
-    show-requires-2
+    show-requires
     add-i
     loop-less
     loop-again

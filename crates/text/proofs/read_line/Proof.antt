@@ -1,11 +1,11 @@
--- `sheet::read_line` meets its contract: each test is one of the meaning's. Assumes nothing.
+-- `read_line` meets its contract: each test is one of the meaning's. Assumes nothing.
 use mathlib.Core.Path.{sym, _∙_}
 use native.Mathlib.Omega.{arith}
 use lib.Seq.{length-take-le}
 use borrow.Author.Needs.{needs}
-use Rattle.sheet.proofs.Reading.{none-refused, long-refused, open-refused, line-read}
-use Rattle.sheet.proofs.read_line.Statement.{statement}
-use Rattle.sheet.proofs.read_line.Tie as tie
+use Rattle.text.proofs.Inputs.{none-refused, long-refused, open-refused, line-read}
+use Rattle.text.proofs.read_line.Statement.{statement}
+use Rattle.text.proofs.read_line.Tie as tie
 
 refused-requires : tie.Need-refused-requires
 refused-requires c κs = search needs
