@@ -1,11 +1,21 @@
-/* The page examples/torn-page.txt, tested on every day in plain C: a Monday, fourteen tithis elapsed, the Sun in the degree from 34. Prints the days' numbers. */
+/* Two pages tested on every day in plain C, which prints the days' numbers. `every_day` is examples/torn-page.txt: a Monday, fourteen tithis elapsed, the Sun in the degree from 34.
+   `every_day EDITION` is a page that asks for elements alone: tithi 12, nakshatra 4, yoga 23, in an edition. */
 #include "plain.h"
 #include <stdio.h>
+#include <stdlib.h>
 
-int main(void) {
-    for (uint32_t day = 0; day <= 401599; day++) {
-        uint32_t off = (plain_mean_sun(day) + 1296000 - 34 * 3600) % 1296000;
-        if (off < 3600 && plain_weekday(day) == 0 && plain_tithi(day) == 14) printf("%u\n", day);
-    }
+static int torn(uint32_t day) {
+    uint32_t off = (plain_mean_sun(day) + 1296000 - 34 * 3600) % 1296000;
+    return off < 3600 && plain_weekday(day) == 0 && plain_tithi(day) == 14;
+}
+
+static int elements(uint32_t edition, uint32_t day) {
+    return plain_element_number(1, edition, day) == 12 && plain_element_number(2, edition, day) == 4 && plain_element_number(3, edition, day) == 23;
+}
+
+int main(int count, char **word) {
+    uint32_t edition = count == 2 ? (uint32_t)atoi(word[1]) : 0;
+    for (uint32_t day = 0; day <= 401599; day++)
+        if (edition ? elements(edition, day) : torn(day)) printf("%u\n", day);
     return 0;
 }

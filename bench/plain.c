@@ -16,16 +16,28 @@ static inline uint32_t apogee(uint32_t day) { return mean(day, 603180, 981900, 2
 
 static inline uint32_t past(uint32_t a, uint32_t b) { return (a + CIRCLE - b) % CIRCLE; }
 
-static inline uint32_t corrected(uint32_t at, uint32_t apo, uint64_t scale, uint64_t divisor) {
-    uint32_t x = past(apo, at);
+static inline uint32_t equation(uint32_t x, uint64_t scale, uint64_t divisor) {
     uint64_t s = x <= 324000 ? x : x <= 648000 ? 648000 - x : x <= 972000 ? x - 648000 : CIRCLE - x;
     uint64_t q = s * (648000 - s);
-    uint32_t size = (uint32_t)(scale * q / (divisor - q));
-    return x <= 648000 ? (at + size) % CIRCLE : (at + CIRCLE - size) % CIRCLE;
+    return (uint32_t)(scale * q / (divisor - q));
+}
+
+static inline uint32_t with(uint32_t at, uint32_t x, uint32_t size) { return x <= 648000 ? (at + size) % CIRCLE : (at + CIRCLE - size) % CIRCLE; }
+
+static inline uint32_t corrected(uint32_t at, uint32_t apo, uint64_t scale, uint64_t divisor) {
+    uint32_t x = past(apo, at);
+    return with(at, x, equation(x, scale, divisor));
 }
 
 static inline uint32_t true_sun(uint32_t day) { return corrected(sun(day), 280800, 32400, 538526880000u); }
 static inline uint32_t true_moon(uint32_t day) { return corrected(moon(day), apogee(day), 72000, 522547200000u); }
+
+static inline uint32_t moon_of(uint32_t edition, uint32_t day) {
+    uint32_t at = true_moon(day);
+    if (edition != 2) return at;
+    uint32_t x = past(280800, sun(day));
+    return with(at, x, equation(x, 32400, 538526880000u) / 27);
+}
 
 uint32_t plain_mean_sun(uint32_t day) { return day > LAST ? 0 : sun(day); }
 uint32_t plain_mean_moon(uint32_t day) { return day > LAST ? 0 : moon(day); }
@@ -45,6 +57,21 @@ uint32_t plain_karana(uint32_t day) {
     if (day > LAST) return 0;
     uint32_t h = past(true_moon(day), true_sun(day)) / 21600;
     return h == 0 ? 11 : h <= 56 ? (h - 1) % 7 + 1 : h - 49;
+}
+
+uint32_t plain_element_number(uint32_t which, uint32_t edition, uint32_t day) {
+    if ((edition != 1 && edition != 2) || day > LAST) return 0;
+    uint32_t at = moon_of(edition, day);
+    switch (which) {
+    case 0: return at;
+    case 1: return past(at, true_sun(day)) / 43200;
+    case 2: return at / 48000;
+    case 3: return (true_sun(day) + at) % CIRCLE / 48000;
+    default: {
+        uint32_t h = past(at, true_sun(day)) / 21600;
+        return h == 0 ? 11 : h <= 56 ? (h - 1) % 7 + 1 : h - 49;
+    }
+    }
 }
 
 static inline uint32_t saka_day(uint32_t year, uint32_t months, uint32_t tithis, uint32_t weekday, uint32_t pending) {

@@ -19,6 +19,8 @@ uint32_t plain_tithi(uint32_t day);
 uint32_t plain_nakshatra(uint32_t day);
 uint32_t plain_yoga(uint32_t day);
 uint32_t plain_karana(uint32_t day);
+/* In an edition: the true Moon for 0, the tithi for 1, the nakshatra for 2, the yoga for 3, else the karana. */
+uint32_t plain_element_number(uint32_t which, uint32_t edition, uint32_t day);
 uint32_t plain_saka_day(uint32_t year, uint32_t months, uint32_t tithis, uint32_t weekday);
 uint32_t plain_saka_pending_day(uint32_t year, uint32_t months, uint32_t tithis, uint32_t weekday, uint32_t pending);
 

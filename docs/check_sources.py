@@ -48,7 +48,7 @@ BACKWARDS = {"Moon's node"}
 
 # Source 002's equations of the centre, with b the bhuja in degrees over `part`: (whole − b) b / (first − (whole − b) b / second) degrees.
 # Its table 3: the Sun's apogee.
-EQUATIONS_002 = {"trueSun": (9, 20, 57, 9), "trueMoon": (6, 30, 56, 20)}
+EQUATIONS_002 = {"trueSun": (9, 20, 57, 9), "moonAlone": (6, 30, 56, 20)}
 SUN_APOGEE = (78,)
 
 # What docs/sources.md says of the thirds that 002 prints: rounded down, rounded to the nearest, or neither.
@@ -129,17 +129,23 @@ def places():
             same(f"{name} on ({C}, {A}): seconds that 000 has more", seconds(angle) - nearest, more)
 
 
+def value(word, text):
+    """A number, or that of a definition; None for a parameter."""
+    found = re.search(rf"^{word} = (\d+)$", text, re.M)
+    return int(word) if word.isdigit() else int(found[1]) if found else None
+
+
 def equations():
     """In seconds, with s the bhuja and R = (part × 3600)²: 3600 × second × Q / (first × second × R − Q), Q = s × (648000 − s)."""
     text = EQUATIONS.read_text(encoding="utf-8")
     for name, (part, whole, first, second) in EQUATIONS_002.items():
-        found = re.search(rf"^{name} .*= trueLongitude (\d+) (\d+) (\S+)", text, re.M)
+        found = [value(word, text) for word in re.search(rf"^{name} .*= trueLongitude (\w+) (\w+) (\w+)", text, re.M).groups()]
         unit = part * 3600
         same(f"{name}: half a circle", whole * unit, 648000)
-        same(f"{name}: scale", int(found[1]), 3600 * second)
-        same(f"{name}: divisor", int(found[2]), first * second * unit**2)
+        same(f"{name}: scale", found[0], 3600 * second)
+        same(f"{name}: divisor", found[1], first * second * unit**2)
         if name == "trueSun":
-            same("the Sun's apogee", int(found[3]), seconds(SUN_APOGEE))
+            same("the Sun's apogee", found[2], seconds(SUN_APOGEE))
 
 
 rows()

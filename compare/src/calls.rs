@@ -1,6 +1,7 @@
 //! The calls of the two static archives: `host`, the museum's C calls, and `bridge`, a test library
-//! that reaches the search and the look with every condition, the text that `find` prints, and a mean
-//! place with its left-over and divisor. A number of a refused call is 0, but with 7.
+//! that reaches the search and the look with every condition and edition, the text that `find` prints,
+//! a day's elements in an edition, and a mean place with its left-over and divisor. A number of a
+//! refused call is 0, but with 7.
 
 #[link(name = "host", kind = "static")]
 unsafe extern "C" {
@@ -106,12 +107,25 @@ unsafe extern "C" {
     pub safe fn bridge_longitude_remainder(body: u32, day: u32) -> u32;
     pub safe fn bridge_longitude_divisor(body: u32, day: u32) -> u32;
 
+    /// All elements of a day in an edition, together.
+    pub safe fn bridge_elements_result(edition: u32, day: u32) -> u32;
+    pub safe fn bridge_elements_sun(edition: u32, day: u32) -> u32;
+    pub safe fn bridge_elements_moon(edition: u32, day: u32) -> u32;
+    pub safe fn bridge_elements_tithi(edition: u32, day: u32) -> u32;
+    pub safe fn bridge_elements_nakshatra(edition: u32, day: u32) -> u32;
+    pub safe fn bridge_elements_yoga(edition: u32, day: u32) -> u32;
+    pub safe fn bridge_elements_karana(edition: u32, day: u32) -> u32;
+    /// One alone: 0 true Moon, 1 tithi, 2 nakshatra, 3 yoga, 4 and above karana.
+    pub safe fn bridge_element_result(which: u32, edition: u32, day: u32) -> u32;
+    pub safe fn bridge_element_number(which: u32, edition: u32, day: u32) -> u32;
+
     pub fn bridge_examine_result(query: *const u8, query_len: usize, day: u32) -> u32;
     pub fn bridge_examine_matches(query: *const u8, query_len: usize, day: u32) -> u32;
     pub fn bridge_examine_next(query: *const u8, query_len: usize, day: u32) -> u32;
 
     /// List and buffer are lent for the call. Each of the three calls fills the buffer.
     pub fn bridge_lines_result(
+        edition: u32,
         list: *const u8,
         list_len: usize,
         from: u32,
@@ -119,6 +133,7 @@ unsafe extern "C" {
         buffer_len: usize,
     ) -> u32;
     pub fn bridge_lines_bytes(
+        edition: u32,
         list: *const u8,
         list_len: usize,
         from: u32,
@@ -126,6 +141,7 @@ unsafe extern "C" {
         buffer_len: usize,
     ) -> usize;
     pub fn bridge_lines_next(
+        edition: u32,
         list: *const u8,
         list_len: usize,
         from: u32,
@@ -134,12 +150,14 @@ unsafe extern "C" {
     ) -> usize;
 
     pub fn bridge_heading_result(
+        edition: u32,
         length: u32,
         examined: u32,
         buffer: *mut u8,
         buffer_len: usize,
     ) -> u32;
     pub fn bridge_heading_bytes(
+        edition: u32,
         length: u32,
         examined: u32,
         buffer: *mut u8,

@@ -17,6 +17,9 @@ fn main() {
         runs::worked::run(checks, &almanac)
     });
     checks.part("days", |checks| runs::days::run(checks, &almanac));
+    checks.part("elements by edition", |checks| {
+        runs::elements::run(checks, &almanac)
+    });
     checks.part("parts of a second", |checks| {
         runs::longitudes::run(checks, &almanac)
     });
@@ -33,6 +36,9 @@ fn main() {
         runs::kept::run(checks, &almanac)
     });
     checks.part("looks", |checks| runs::look::run(checks, &almanac));
+    checks.part("days that differ by edition", |checks| {
+        runs::parted::run(checks, &almanac)
+    });
     checks.part("lines into a buffer", |checks| {
         runs::lines::run(checks, &almanac)
     });

@@ -4,8 +4,9 @@ use std::collections::HashMap;
 
 use super::civil::Date;
 use super::days::{next_weekday, Pair, MONDAY};
+use super::edition::Edition;
 use super::longitudes::longitudes;
-use super::panchanga;
+use super::panchanga::Elements;
 use super::refusal::{Answer, NO_SUCH_DATE, OUT_OF_RANGE};
 
 /// All that the rules give a day.
@@ -16,32 +17,30 @@ pub struct Day {
     pub weekday: u32,
     pub mean: [u32; 9],
     pub thirds: [u32; 9],
-    pub sun: u32,
-    pub moon: u32,
-    pub tithi: u32,
-    pub nakshatra: u32,
-    pub yoga: u32,
-    pub karana: u32,
+    first: Elements,
+    second: Elements,
 }
 
 impl Day {
     fn reckon(date: Date, pair: Pair, weekday: u32) -> Day {
         let longitudes = longitudes(pair);
         let mean = longitudes.map(|longitude| longitude.seconds);
-        let sun = panchanga::true_sun(&mean);
-        let moon = panchanga::true_moon(&mean);
         Day {
             date,
             pair,
             weekday,
             mean,
             thirds: longitudes.map(|longitude| longitude.thirds),
-            sun,
-            moon,
-            tithi: panchanga::tithi(sun, moon),
-            nakshatra: panchanga::nakshatra(moon),
-            yoga: panchanga::yoga(sun, moon),
-            karana: panchanga::karana(sun, moon),
+            first: Elements::of(&mean, Edition::First),
+            second: Elements::of(&mean, Edition::Second),
+        }
+    }
+
+    /// L8: the elements "name their edition".
+    pub fn elements(&self, edition: Edition) -> &Elements {
+        match edition {
+            Edition::First => &self.first,
+            Edition::Second => &self.second,
         }
     }
 }
@@ -49,6 +48,7 @@ impl Day {
 pub struct Almanac {
     days: Vec<Day>,
     number_of: HashMap<Date, u32>,
+    parted: Vec<u32>,
 }
 
 impl Almanac {
@@ -57,11 +57,17 @@ impl Almanac {
         let mut almanac = Almanac {
             days: Vec::new(),
             number_of: HashMap::new(),
+            parted: Vec::new(),
         };
         let (mut date, mut pair, mut weekday) = (Date::EPOCH, Pair::EPOCH, MONDAY);
         loop {
-            almanac.number_of.insert(date, almanac.days.len() as u32);
-            almanac.days.push(Day::reckon(date, pair, weekday));
+            let number = almanac.days.len() as u32;
+            let day = Day::reckon(date, pair, weekday);
+            almanac.number_of.insert(date, number);
+            if day.first.limbs() != day.second.limbs() {
+                almanac.parted.push(number);
+            }
+            almanac.days.push(day);
             match pair.next() {
                 Ok(next) => pair = next,
                 Err(_) => return almanac,
@@ -76,9 +82,20 @@ impl Almanac {
         &self.days
     }
 
+    /// The numbers of the days whose limbs differ from edition to edition.
+    pub fn parted(&self) -> &[u32] {
+        &self.parted
+    }
+
     /// "Refusals by number", 2: "a day outside 0 to 401,599".
     pub fn day(&self, number: u32) -> Answer<&Day> {
         self.days.get(number as usize).ok_or(OUT_OF_RANGE)
+    }
+
+    /// L8: refused with 14, "before all others", and with 2.
+    pub fn elements(&self, edition: u32, number: u32) -> Answer<&Elements> {
+        let edition = Edition::numbered(edition)?;
+        Ok(self.day(number)?.elements(edition))
     }
 
     /// "Refusals by number": "date 1, 2".

@@ -1,9 +1,10 @@
 //! What the program `find` prints of the days found: their number and that of the days looked at,
-//! a heading, and a line for each day; and the calls that put this into a lent buffer, a piece at a
-//! time.
+//! a heading, and a line for each day, in an edition of paper 02's L8; and the calls that put this
+//! into a lent buffer, a piece at a time.
 
 use super::almanac::Almanac;
 use super::civil::Date;
+use super::edition::Edition;
 use super::refusal::{Answer, LIST_TOO_SHORT};
 use super::search::Found;
 
@@ -17,15 +18,22 @@ pub const WEEKDAYS: [&str; 7] = [
     "sunday",
 ];
 
+/// The line of each entry of a list, or its refusal.
+pub type Lines = Vec<Answer<String>>;
+
 const HEADING: &str = "day date weekday tithi nakshatra yoga karana";
 
-/// The two lines before the days'.
-pub fn heading(length: u32, looked: u32) -> String {
-    format!("found {length} looked {looked}\n{HEADING}\n")
+/// The two lines before the days'. The first names edition 2, and edition 1 by saying nothing.
+pub fn heading(edition: Edition, length: u32, looked: u32) -> String {
+    let named = match edition {
+        Edition::First => "",
+        Edition::Second => " edition 2",
+    };
+    format!("found {length} looked {looked}{named}\n{HEADING}\n")
 }
 
 /// The line of a day; 2 for a number that is no day.
-pub fn line(almanac: &Almanac, number: u32) -> Answer<String> {
+pub fn line(almanac: &Almanac, edition: Edition, number: u32) -> Answer<String> {
     let day = almanac.day(number)?;
     let Date {
         year,
@@ -33,7 +41,7 @@ pub fn line(almanac: &Almanac, number: u32) -> Answer<String> {
         day: of_month,
     } = day.date;
     let weekday = WEEKDAYS[day.weekday as usize];
-    let limbs = [day.tithi, day.nakshatra, day.yoga, day.karana].map(|limb| limb.to_string());
+    let limbs = day.elements(edition).limbs().map(|limb| limb.to_string());
     Ok(format!(
         "{number} {year}-{month}-{of_month} {weekday} {}\n",
         limbs.join(" ")
@@ -42,20 +50,22 @@ pub fn line(almanac: &Almanac, number: u32) -> Answer<String> {
 
 /// All that is printed for a search.
 pub fn text(almanac: &Almanac, found: &Found) -> String {
-    let mut text = heading(found.matching.len() as u32, found.visited.len() as u32);
+    let counts = [&found.matching, &found.visited].map(|days| days.len() as u32);
+    let mut text = heading(found.edition, counts[0], counts[1]);
     for day in &found.matching {
-        text += &line(almanac, *day).expect("a day that is found is a day");
+        text += &line(almanac, found.edition, *day).expect("a day that is found is a day");
     }
     text
 }
 
 /// The lines of a list of bytes, "four a day, low byte first", where "a tail under four bytes is no
-/// place" (paper 01, "What the table reckons").
-pub fn lines(almanac: &Almanac, list: &[u8]) -> Vec<Answer<String>> {
-    list.chunks_exact(4)
-        .map(|entry| u32::from_le_bytes([entry[0], entry[1], entry[2], entry[3]]))
-        .map(|number| line(almanac, number))
-        .collect()
+/// place" (paper 01, "What the table reckons"), in the edition of this number. Refused with 14 is
+/// the list as a whole.
+pub fn lines(almanac: &Almanac, edition: u32, list: &[u8]) -> Answer<Lines> {
+    let edition = Edition::numbered(edition)?;
+    let entries = list.chunks_exact(4);
+    let days = entries.map(|entry| u32::from_le_bytes([entry[0], entry[1], entry[2], entry[3]]));
+    Ok(days.map(|day| line(almanac, edition, day)).collect())
 }
 
 /// What a call that fills a buffer gives back, and what then stands at the buffer's front.
@@ -103,9 +113,14 @@ impl Put {
 }
 
 /// The lines of a list's entries from number `from` on, as many as fit whole into `room` bytes, and
-/// none at or behind an entry that is no day. Refused are a first entry that is no day and, with 7, a
-/// first line that doesn't fit; where no entry is left there is nothing to refuse.
-pub fn put_lines(lines: &[Answer<String>], from: u32, room: usize) -> Put {
+/// none at or behind an entry that is no day. Refused are an edition that there isn't, a first entry
+/// that is no day and, with 7, a first line that doesn't fit; where no entry is left there is nothing
+/// but the edition to refuse.
+pub fn put_lines(lines: &Answer<Lines>, from: u32, room: usize) -> Put {
+    let lines = match lines {
+        Ok(lines) => lines,
+        Err(refusal) => return Put::refused(*refusal, 0),
+    };
     let mut next = from as usize;
     let due = lines.get(next..).unwrap_or_default();
     match due.first() {
@@ -124,9 +139,12 @@ pub fn put_lines(lines: &[Answer<String>], from: u32, room: usize) -> Put {
     Put::accepted(text, next)
 }
 
-/// The heading, whole or not at all. It has no entries: `next` is 0.
-pub fn put_heading(length: u32, looked: u32, room: usize) -> Put {
-    let text = heading(length, looked);
+/// The heading, whole or not at all, in the edition of this number. It has no entries: `next` is 0.
+pub fn put_heading(edition: u32, length: u32, looked: u32, room: usize) -> Put {
+    let text = match Edition::numbered(edition) {
+        Ok(edition) => heading(edition, length, looked),
+        Err(refusal) => return Put::refused(refusal, 0),
+    };
     if text.len() > room {
         Put::no_room_for(&text)
     } else {

@@ -1,13 +1,14 @@
-//! The rules of paper 01, and of paper 02's L2 and L4, each written a second time and by another
-//! method than the proved crates: exact fractions with one floor, dates by walking the calendar day
-//! by day, and a search that tests every day of its span. Each function cites the paper's heading
-//! that it follows; the page of `find` and what it prints, which the papers leave open, are
-//! described in `page` and `catalogue`, and what `engraving` prints in `plate`.
+//! The rules of paper 01, and of paper 02's L2, L4 and L8, each written a second time and by
+//! another method than the proved crates: exact fractions with one floor, dates by walking the
+//! calendar day by day, and a search that tests every day of its span. Each function cites the
+//! paper's heading that it follows; the page of `find` and what it prints, which the papers leave
+//! open, are described in `page` and `catalogue`, and what `engraving` prints in `plate`.
 
 pub mod almanac;
 pub mod catalogue;
 pub mod civil;
 pub mod days;
+pub mod edition;
 pub mod exact;
 pub mod longitudes;
 pub mod motions;

@@ -1,10 +1,11 @@
 //! The page that the program `find` reads, and what it prints: a reading of paper 01 in words, a
-//! condition on each line.
+//! condition on each line, and the edition that it names by paper 02's L8.
 //!
 //! `#` starts a comment up to the line's end; space, tab and carriage return separate words. A line
 //! without words says nothing. Another line is a word and its values, and no word may stand twice:
 //!
 //! - `span FROM TO`: day numbers or dates YEAR-MONTH-DAY; without it, all days of the table;
+//! - `edition`: a number; without it, 1;
 //! - `weekday`: a number, or its name; `tithi`, `nakshatra`, `yoga`: a number;
 //! - one of the nine bodies: an arc's start and width, each in seconds or as D:M:S.
 //!
@@ -18,15 +19,17 @@ use super::catalogue::{self, WEEKDAYS};
 use super::civil::Date;
 use super::days::LAST_DAY;
 use super::refusal::{
-    Answer, BAD_CONDITION, BAD_INPUT, LAST_BEFORE_FIRST, NO_SUCH_DATE, OUT_OF_RANGE,
+    Answer, BAD_CONDITION, BAD_INPUT, LAST_BEFORE_FIRST, NO_SUCH_DATE, NO_SUCH_EDITION,
+    OUT_OF_RANGE,
 };
 use super::search::{Arc, Query};
 
 /// A page of so many bytes, or more, is refused as a whole.
 pub const TOO_LONG: usize = 524_288;
 
-/// The refusals of lines. The page has the gravest of its lines'.
-const GRAVEST_FIRST: [u32; 5] = [
+/// The refusals of lines. The page has the gravest of its lines': 14 is "before all others".
+const GRAVEST_FIRST: [u32; 6] = [
+    NO_SUCH_EDITION,
     BAD_INPUT,
     NO_SUCH_DATE,
     OUT_OF_RANGE,
@@ -66,6 +69,7 @@ enum End {
 #[derive(Clone, Copy)]
 enum Said {
     Span(End, End),
+    Edition(u32),
     Weekday(u32),
     Tithi(u32),
     Nakshatra(u32),
@@ -126,6 +130,7 @@ fn words(line: &str) -> Vec<&str> {
 fn said_by(words: &[&str]) -> Option<Said> {
     Some(match *words {
         ["span", from, to] => Said::Span(end(from)?, end(to)?),
+        ["edition", value] => Said::Edition(number(value)?),
         ["weekday", value] => Said::Weekday(weekday(value)?),
         ["tithi", value] => Said::Tithi(number(value)?),
         ["nakshatra", value] => Said::Nakshatra(number(value)?),
@@ -162,6 +167,7 @@ impl Said {
                 }
                 [query.first, query.last] = [ends[0]?, ends[1]?];
             }
+            Said::Edition(value) => query.edition = value,
             Said::Weekday(value) => query.weekday = Some(value),
             Said::Tithi(value) => query.tithi = Some(value),
             Said::Nakshatra(value) => query.nakshatra = Some(value),
@@ -171,11 +177,11 @@ impl Said {
         Ok(())
     }
 
-    /// The refusal of a line that stands alone: 1, 2, 5 or 6.
+    /// The refusal of a line that stands alone: 14, 1, 2, 5 or 6.
     fn well_formed(self, almanac: &Almanac) -> Answer<()> {
         let mut alone = Query::without_conditions(0, LAST_DAY);
         self.put_into(&mut alone, almanac)?;
-        alone.well_formed()
+        alone.well_formed().map(drop)
     }
 }
 
@@ -191,10 +197,14 @@ fn read_line<'a>(
         return Ok(());
     }
     let said = said_by(&words).ok_or(BAD_INPUT)?;
+    let alone = said.well_formed(almanac);
     if !stood.insert(words[0]) {
-        return Err(BAD_INPUT);
+        let graver = alone
+            .err()
+            .filter(|refusal| gravity(*refusal) < gravity(BAD_INPUT));
+        return Err(graver.unwrap_or(BAD_INPUT));
     }
-    said.well_formed(almanac)?;
+    alone?;
     said.put_into(query, almanac)
 }
 

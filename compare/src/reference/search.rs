@@ -1,8 +1,10 @@
-//! Paper 01, "A reading and its walk". A reading is here a query, a fitting day a matching day,
-//! the walk's days are the visited days, and a place of the lent list is an entry.
+//! Paper 01, "A reading and its walk", and the edition that a reading names by paper 02, L8. A
+//! reading is here a query, a fitting day a matching day, the walk's days are the visited days, and
+//! a place of the lent list is an entry.
 
 use super::almanac::{Almanac, Day};
 use super::days::LAST_DAY;
+use super::edition::Edition;
 use super::exact::{reduced, Fraction};
 use super::longitudes::SUN;
 use super::refusal::{Answer, BAD_CONDITION, LAST_BEFORE_FIRST, LIST_TOO_SHORT, OUT_OF_RANGE};
@@ -35,9 +37,10 @@ impl Arc {
 }
 
 /// "A reading has a first and a last day, both counted, and optionally one weekday, one tithi, one
-/// nakshatra, one yoga, and for each of the nine mean places an arc."
+/// nakshatra, one yoga, and for each of the nine mean places an arc." L8: it names its edition.
 #[derive(Clone, Debug)]
 pub struct Query {
+    pub edition: u32,
     pub first: u32,
     pub last: u32,
     pub weekday: Option<u32>,
@@ -49,6 +52,8 @@ pub struct Query {
 
 /// What the search has to give where it isn't refused before the list is looked at.
 pub struct Found {
+    /// The query's.
+    pub edition: Edition,
     /// "A fitting day is a day of the span that meets all conditions given."
     pub matching: Vec<u32>,
     /// The days of the walk.
@@ -69,8 +74,10 @@ fn asked<T: Copy>(condition: Option<T>, test: impl Fn(T) -> bool) -> bool {
 }
 
 impl Query {
+    /// In edition 1.
     pub fn without_conditions(first: u32, last: u32) -> Query {
         Query {
+            edition: 1,
             first,
             last,
             weekday: None,
@@ -82,7 +89,7 @@ impl Query {
     }
 
     /// The host's search "gives just a Sun arc and a weekday, both always" ("What the table
-    /// reckons").
+    /// reckons"), and "the C calls stay edition 1" (L8).
     pub fn of_host(first: u32, last: u32, sun: Arc, weekday: u32) -> Query {
         let mut query = Query::without_conditions(first, last);
         query.weekday = Some(weekday);
@@ -100,8 +107,10 @@ impl Query {
             && self.arcs.iter().all(|arc| asked(*arc, Arc::well_formed))
     }
 
-    /// "Order: search 2, 5, 6, 7"; 7 needs the list and comes later.
-    pub fn well_formed(&self) -> Answer<()> {
+    /// "Order: search 2, 5, 6, 7", and 14 "before all others" (L8); 7 needs the list and comes
+    /// later. A query that isn't refused has an edition.
+    pub fn well_formed(&self) -> Answer<Edition> {
+        let edition = Edition::numbered(self.edition)?;
         if self.first > LAST_DAY || self.last > LAST_DAY {
             Err(OUT_OF_RANGE)
         } else if self.last < self.first {
@@ -109,30 +118,32 @@ impl Query {
         } else if !self.conditions_in_range() {
             Err(BAD_CONDITION)
         } else {
-            Ok(())
+            Ok(edition)
         }
     }
 
     /// "Meets all conditions given, by the weekday, tithi, nakshatra, yoga and mean places that
-    /// the rules above give that day." "A reading without conditions fits every day."
-    fn met_by(&self, day: &Day) -> bool {
+    /// the rules above give that day." "A reading without conditions fits every day." L8: "in
+    /// edition 2 with the true Moon so changed".
+    fn met_by(&self, day: &Day, edition: Edition) -> bool {
+        let elements = day.elements(edition);
         asked(self.weekday, |weekday| weekday == day.weekday)
-            && asked(self.tithi, |tithi| tithi == day.tithi)
-            && asked(self.nakshatra, |nakshatra| nakshatra == day.nakshatra)
-            && asked(self.yoga, |yoga| yoga == day.yoga)
+            && asked(self.tithi, |tithi| tithi == elements.tithi)
+            && asked(self.nakshatra, |nakshatra| nakshatra == elements.nakshatra)
+            && asked(self.yoga, |yoga| yoga == elements.yoga)
             && (0..9).all(|body| asked(self.arcs[body], |arc| arc.holds(day.mean[body])))
     }
 
     /// "Fitting days are defined from the span alone and not from the walk": every day is tested.
-    fn matching_days(&self, days: &[Day]) -> Vec<u32> {
+    fn matching_days(&self, days: &[Day], edition: Edition) -> Vec<u32> {
         (self.first..=self.last)
-            .filter(|day| self.met_by(&days[*day as usize]))
+            .filter(|day| self.met_by(&days[*day as usize], edition))
             .collect()
     }
 
     /// "After a day whose mean Sun is in the Sun's arc, and always where no Sun arc is given,
     /// comes the next day. After a day outside it with g seconds forward to the arc's start comes
-    /// the day g / 3549, rounded up, later."
+    /// the day g / 3549, rounded up, later." L8: "The Sun's walk is one for both."
     fn visited_after(&self, number: u32, day: &Day) -> u32 {
         match self.arcs[SUN] {
             Some(arc) if !arc.holds(day.mean[SUN]) => {
@@ -145,13 +156,15 @@ impl Query {
 
     /// "One function, the look, takes a reading and a day and says, by a full statement, whether the
     /// day fits and which day the walk takes next." It refuses as the search does, and with 2 for its
-    /// own day too. A day outside the span doesn't fit, and is followed as if the walk came to it.
+    /// own day too, after 14. A day outside the span doesn't fit, and is followed as if the walk came
+    /// to it.
     pub fn look(&self, almanac: &Almanac, number: u32) -> Answer<Look> {
+        Edition::numbered(self.edition)?;
         let day = almanac.day(number)?;
-        self.well_formed()?;
+        let edition = self.well_formed()?;
         let in_span = (self.first..=self.last).contains(&number);
         Ok(Look {
-            matches: in_span && self.met_by(day),
+            matches: in_span && self.met_by(day, edition),
             next: self.visited_after(number, day),
         })
     }
@@ -178,9 +191,10 @@ impl Query {
     }
 
     pub fn search(&self, almanac: &Almanac) -> Answer<Found> {
-        self.well_formed()?;
+        let edition = self.well_formed()?;
         Ok(Found {
-            matching: self.matching_days(almanac.days()),
+            edition,
+            matching: self.matching_days(almanac.days(), edition),
             visited: self.visited_days(almanac.days()),
             limit: self.limit(almanac.days()),
         })

@@ -1,6 +1,8 @@
-//! Paper 01, "What the table reckons": the day sheet.
+//! Paper 01, "What the table reckons": the day sheet, which "stays edition 1" (paper 02, L8).
 
 use super::almanac::Almanac;
+use super::edition::Edition;
+use super::panchanga::Elements;
 use super::refusal::{Answer, BAD_INPUT};
 
 const HEADING: &str = "day cycle within weekday sun moon tithi nakshatra yoga karana";
@@ -20,17 +22,25 @@ pub fn number_in(input: &[u8]) -> Answer<u32> {
 /// The heading and the day's line: "Sun and Moon are true places and no number has leading zeros".
 fn lines(almanac: &Almanac, number: u32) -> Answer<String> {
     let day = almanac.day(number)?;
+    let Elements {
+        sun,
+        moon,
+        tithi,
+        nakshatra,
+        yoga,
+        karana,
+    } = *day.elements(Edition::First);
     let numbers = [
         number,
         day.pair.cycle,
         day.pair.within,
         day.weekday,
-        day.sun,
-        day.moon,
-        day.tithi,
-        day.nakshatra,
-        day.yoga,
-        day.karana,
+        sun,
+        moon,
+        tithi,
+        nakshatra,
+        yoga,
+        karana,
     ];
     Ok(format!(
         "{HEADING}\n{}\n",

@@ -5,12 +5,19 @@ use crate::checks::Checks;
 use crate::random::Random;
 use crate::reference::almanac::{Almanac, Day};
 use crate::reference::days::LAST_DAY;
+use crate::reference::edition::Edition;
+use crate::reference::panchanga::Elements;
 use crate::reference::refusal::result_number;
 
 use super::WIDTH_EDGES;
 
 /// A call, and where the second program has the same number.
 type DayCall = (&'static str, extern "C" fn(u32) -> u32, fn(&Day) -> u32);
+
+/// The host's calls are edition 1.
+fn elements(day: &Day) -> &Elements {
+    day.elements(Edition::First)
+}
 
 const DAY_CALLS: [DayCall; 30] = [
     ("graha_day_year", graha_day_year, |day| day.date.year),
@@ -69,12 +76,14 @@ const DAY_CALLS: [DayCall; 30] = [
         graha_mean_saturn_thirds,
         |day| day.thirds[8],
     ),
-    ("graha_true_sun", graha_true_sun, |day| day.sun),
-    ("graha_true_moon", graha_true_moon, |day| day.moon),
-    ("graha_tithi", graha_tithi, |day| day.tithi),
-    ("graha_nakshatra", graha_nakshatra, |day| day.nakshatra),
-    ("graha_yoga", graha_yoga, |day| day.yoga),
-    ("graha_karana", graha_karana, |day| day.karana),
+    ("graha_true_sun", graha_true_sun, |day| elements(day).sun),
+    ("graha_true_moon", graha_true_moon, |day| elements(day).moon),
+    ("graha_tithi", graha_tithi, |day| elements(day).tithi),
+    ("graha_nakshatra", graha_nakshatra, |day| {
+        elements(day).nakshatra
+    }),
+    ("graha_yoga", graha_yoga, |day| elements(day).yoga),
+    ("graha_karana", graha_karana, |day| elements(day).karana),
 ];
 
 fn compare(checks: &mut Checks, almanac: &Almanac, number: u32) {

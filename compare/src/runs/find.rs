@@ -8,6 +8,7 @@ use crate::reference::page::{printed, Complaint, BODIES, TOO_LONG};
 use super::page_text::*;
 use super::programs::{self, shown};
 use super::queries::random_query;
+use super::EDITIONS;
 
 const PROGRAM: &str = "target/bin/find";
 
@@ -55,29 +56,35 @@ fn compare_line(checks: &mut Checks, almanac: &Almanac, line: &str) {
     compare(checks, almanac, format!("{span}{line}\n").as_bytes());
 }
 
-/// Each kind of line alone, at its edges and with a fault.
+/// Each kind of line alone, at its edges and with a fault; and each with a line that names an edition,
+/// behind it or before it: one that there is and one that there isn't.
 fn lines(checks: &mut Checks, almanac: &Almanac) {
-    let sound = [&SPANS[..], &VALUES].concat();
+    let sound = [&SPANS[..], &VALUES, &EDITION_LINES].concat();
     let refused = [&NO_DATES[..], &DAYS_OUTSIDE, &REVERSED, &BAD_CONDITIONS].concat();
-    for line in [&sound[..], &refused, &OTHER_FORMS].concat() {
+    let other = [&OTHER_FORMS[..], &BAD_EDITIONS].concat();
+    let mut lines = [sound, refused, other].concat();
+    let arcs: Vec<String> = BODIES
+        .into_iter()
+        .flat_map(|body| ARCS.map(|arc| format!("{body} {arc}")))
+        .collect();
+    lines.extend(arcs.iter().map(String::as_str));
+    for line in lines {
         compare_line(checks, almanac, line);
-    }
-    for body in BODIES {
-        for arc in ARCS {
-            compare_line(checks, almanac, &format!("{body} {arc}"));
-        }
+        compare_line(checks, almanac, &format!("{line}\nedition 2"));
+        compare_line(checks, almanac, &format!("{line}\nedition 3"));
+        compare(checks, almanac, format!("edition 0\n{line}\n").as_bytes());
     }
 }
 
 /// No value, one, two, three for each word; and each word twice, with the first line refused for
 /// its value.
 fn values(checks: &mut Checks, almanac: &Almanac) {
-    let words = ["span", "weekday", "tithi", "nakshatra", "yoga"];
+    let words = ["span", "edition", "weekday", "tithi", "nakshatra", "yoga"];
     for word in words.into_iter().chain(BODIES) {
-        for values in ["", " 5", " 5 6", " 5 6 7"] {
+        for values in ["", " 2", " 2 6", " 5", " 5 6", " 5 6 7"] {
             compare_line(checks, almanac, &format!("{word}{values}"));
         }
-        for values in ["5", "5 6", "500000", "500000 0"] {
+        for values in ["2", "5", "5 6", "500000", "500000 0"] {
             let twice = format!("{word} {values}\n#\n{word} {values}");
             compare_line(checks, almanac, &twice);
         }
@@ -87,7 +94,13 @@ fn values(checks: &mut Checks, almanac: &Almanac) {
 /// Every byte as a blank, and in a number.
 fn bytes(checks: &mut Checks, almanac: &Almanac) {
     for byte in 0..=255 {
-        for (before, after) in [("yoga", "3\n"), ("tithi 1", "\n")] {
+        for (before, after) in [
+            ("yoga", "3\n"),
+            ("tithi 1", "\n"),
+            ("edition", "2\n"),
+            ("edition ", "\n"),
+            ("edition 2", "\n"),
+        ] {
             let line = [before.as_bytes(), &[byte], after.as_bytes()].concat();
             compare(checks, almanac, &[b"span 90 200\n", &line[..]].concat());
         }
@@ -133,7 +146,47 @@ fn odd(checks: &mut Checks, almanac: &Almanac) {
     }
 }
 
-/// Pages over all days or many: with no condition, with a few, and the examples of docs/find.md.
+/// Pages with several lines that name an edition, good and bad, and with other faults beside them.
+fn editions(checks: &mut Checks, almanac: &Almanac) {
+    let pages: [&[u8]; 30] = [
+        b"edition 2\nspan 5 9\n",
+        b"span 5 9\nedition 1\n",
+        b"\t edition\r\t 2\r\n span 5 9\r\n",
+        b"edition 2#3\nspan 5 9\n",
+        b"#edition 3\nspan 5 9\n",
+        b"edition#2\nspan 5 9\n",
+        b"edition\n2\nspan 5 9\n",
+        b"span 5 9\nedition 2",
+        b"span 5 9\nedition 3",
+        b"edition 3\nspan 5 9",
+        b"edition 2\nspan 5 9\nedition 2\n",
+        b"edition 1\nspan 5 9\nedition 2\n",
+        b"edition 2\nspan 5 9\nedition 3\n",
+        b"edition 3\nspan 5 9\nedition 3\n",
+        b"edition 3\nspan 5 9\nedition 2\n",
+        b"edition 3\nspan 5 9\nedition x\n",
+        b"edition x\nspan 5 9\nedition 3\n",
+        b"edition x\nspan 5 9\nedition 2\n",
+        b"edition 2 3\nspan 5 9\nedition 14\n",
+        b"edition 2\nedition 2\nedition 3\n",
+        b"edition 0\nedition 2\nedition 3\n",
+        b"tithi x\nspan 1582-10-10 9\nyoga 99\nedition 14\n",
+        b"span 1582-10-10 9\nedition 14\n",
+        b"span 9 401600\nedition 14\n",
+        b"span 9 5\nedition 14\n",
+        b"weekday 9\nedition 14\n",
+        b"edition 2\nweekday 9\nspan 9 5\n",
+        b"edition 2\nweekday 9\nspan 9 401600\n",
+        b"edition 2\nspan 1582-10-10 9\ntithi 30\n",
+        b"\xEF\xBB\xBFedition 3\nspan 5 9\n",
+    ];
+    for page in pages {
+        compare(checks, almanac, page);
+    }
+}
+
+/// Pages over all days or many: with no condition, with a few, and the examples of docs/find.md; each
+/// in edition 2 too.
 fn many_days(checks: &mut Checks, almanac: &Almanac) {
     let pages = [
         "",
@@ -148,6 +201,7 @@ fn many_days(checks: &mut Checks, almanac: &Almanac) {
     ];
     for page in pages {
         compare(checks, almanac, page.as_bytes());
+        compare(checks, almanac, format!("{page}edition 2\n").as_bytes());
     }
 }
 
@@ -161,7 +215,7 @@ fn long(checks: &mut Checks, almanac: &Almanac) {
     let comments = many(b"# a line of a long page\n");
     let blanks = b" \t\r".repeat(TOO_LONG / 7);
     let span = b"span 1000 1360\n";
-    let pages: [&[&[u8]]; 9] = [
+    let pages: [&[&[u8]]; 12] = [
         &[span, &comments, b"tithi 3\n"],
         &[b"weekday 9\n", &comments, b"span 9 5\n"],
         &[&many(b"\n"), b"tithi 3\n", span, b"tithi 3\n"],
@@ -171,6 +225,9 @@ fn long(checks: &mut Checks, almanac: &Almanac) {
         &[b"span ", &many(b"1 "), b"\n"],
         &[&many(b"sun 0 0\n")],
         &[span, b"#", &many(b"weekday 9 "), b"\n"],
+        &[b"edition 2\n", &comments, span],
+        &[span, &many(b"sun 0 0\n"), b"edition 3\n"],
+        &[span, &many(b"edition 2\n"), b"edition 3\n"],
     ];
     for pieces in pages {
         compare(checks, almanac, &pieces.concat());
@@ -183,7 +240,12 @@ fn long(checks: &mut Checks, almanac: &Almanac) {
         8 * TOO_LONG,
         5_000_000,
     ] {
-        for first in ["span 1000 1360\n", "weekday 9\n"] {
+        for first in [
+            "span 1000 1360\n",
+            "weekday 9\n",
+            "edition 2\nspan 1000 1360\n",
+            "edition 3\n",
+        ] {
             let mut page = [first.as_bytes(), &comments].concat();
             page.resize(length - 1, b' ');
             page.push(b'\n');
@@ -199,6 +261,8 @@ fn in_pieces(checks: &mut Checks, almanac: &Almanac) {
     compare_pieces(checks, almanac, &[b"span 5 9", b"\n"]);
     compare_pieces(checks, almanac, &[b"sp", b"an 5 9\nweek", b"day ", b"1\n"]);
     compare_pieces(checks, almanac, &[b"span 5 9\n", b"x"]);
+    compare_pieces(checks, almanac, &[b"span 5 9\nedit", b"ion 2", b"\n"]);
+    compare_pieces(checks, almanac, &[b"span 5 9\nx\n", b"edition 3\n"]);
     let comments = b"# a line\n".repeat(TOO_LONG / 20);
     compare_pieces(
         checks,
@@ -214,19 +278,20 @@ fn in_pieces(checks: &mut Checks, almanac: &Almanac) {
 }
 
 /// The lines of a random query; any conditions, or one or two over a longer span.
-fn random_lines(random: &mut Random, almanac: &Almanac) -> Vec<Line> {
+fn random_lines(random: &mut Random, almanac: &Almanac, edition: u32) -> Vec<Line> {
     let (given, most) = if random.once_in(2) {
         (random.below(1 << 13), 400)
     } else {
         (1 << random.below(13) | 1 << random.below(13), 3000)
     };
-    let query = random_query(random, almanac, given, most);
+    let query = random_query(random, almanac, edition, given, most);
     lines_of(random, almanac, &query)
 }
 
 /// Replaces or adds lines that are refused, of one to four kinds.
 fn spoil(random: &mut Random, lines: &mut Vec<Line>) {
-    let kinds: [&[&str]; 5] = [
+    let kinds: [&[&str]; 6] = [
+        &BAD_EDITIONS,
         &OTHER_FORMS,
         &NO_DATES,
         &DAYS_OUTSIDE,
@@ -234,9 +299,9 @@ fn spoil(random: &mut Random, lines: &mut Vec<Line>) {
         &BAD_CONDITIONS,
     ];
     // A graver refusal hides the others: a page draws from all kinds, or from the lighter ones.
-    let first = random.one_of(&[0, 1, 1, 4]);
+    let first = random.one_of(&[0, 1, 2, 2, 5]);
     for _ in 0..random.between(1, 4) {
-        let kind = random.between(first, 4) as usize;
+        let kind = random.between(first, 5) as usize;
         let line = words(random.one_of(kinds[kind]));
         put(random, lines, line);
     }
@@ -244,8 +309,8 @@ fn spoil(random: &mut Random, lines: &mut Vec<Line>) {
 
 fn random_pages(checks: &mut Checks, almanac: &Almanac) {
     let mut random = Random::from_seed();
-    for round in 0..900 {
-        let mut lines = random_lines(&mut random, almanac);
+    for (round, edition) in (0..900).flat_map(|round| EDITIONS.map(|edition| (round, edition))) {
+        let mut lines = random_lines(&mut random, almanac, edition);
         if round % 3 == 1 {
             spoil(&mut random, &mut lines);
         }
@@ -264,6 +329,7 @@ pub fn run(checks: &mut Checks, almanac: &Almanac) {
     values(checks, almanac);
     bytes(checks, almanac);
     odd(checks, almanac);
+    editions(checks, almanac);
     many_days(checks, almanac);
     long(checks, almanac);
     in_pieces(checks, almanac);

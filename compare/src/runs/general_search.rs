@@ -8,9 +8,10 @@ use crate::reference::days::LAST_DAY;
 use crate::reference::refusal::BAD_INPUT;
 use crate::reference::search::{Arc, Query};
 
-use super::queries::{at_range_ends, most_entries, random_query, spoil};
+use super::queries::{at_range_ends, most_entries, random_query, spoil, REFUSED_SPANS};
 use super::query_bytes::{encode, other_lengths, shown};
 use super::searches::{self, SearchCalls};
+use super::{EDITIONS, NO_EDITIONS};
 
 /// The query's bytes, as the bridge takes them.
 pub struct BridgeSearch {
@@ -38,7 +39,7 @@ impl SearchCalls for BridgeSearch {
     }
 }
 
-fn compare(checks: &mut Checks, almanac: &Almanac, random: &mut Random, query: &Query) {
+pub fn compare(checks: &mut Checks, almanac: &Almanac, random: &mut Random, query: &Query) {
     let calls = BridgeSearch {
         bytes: encode(random, query),
     };
@@ -52,28 +53,28 @@ fn compare(checks: &mut Checks, almanac: &Almanac, random: &mut Random, query: &
 }
 
 /// Every combination of conditions given and not given.
-fn combinations(checks: &mut Checks, almanac: &Almanac, random: &mut Random) {
+fn combinations(checks: &mut Checks, almanac: &Almanac, random: &mut Random, edition: u32) {
     for given in 0..1 << 13 {
-        let query = random_query(random, almanac, given, 400);
+        let query = random_query(random, almanac, edition, given, 400);
         compare(checks, almanac, random, &query);
     }
 }
 
 /// One or two conditions, over longer spans.
-fn few_conditions(checks: &mut Checks, almanac: &Almanac, random: &mut Random) {
+fn few_conditions(checks: &mut Checks, almanac: &Almanac, random: &mut Random, edition: u32) {
     for round in 0..2000 {
         let given = 1 << random.below(13) | 1 << random.below(13);
         let most = if round % 100 == 0 { LAST_DAY + 1 } else { 3000 };
-        let query = random_query(random, almanac, given, most);
+        let query = random_query(random, almanac, edition, given, most);
         compare(checks, almanac, random, &query);
     }
 }
 
 /// Wide arcs of any bodies, with a weekday or without, so that many days match.
-fn wide_arcs(checks: &mut Checks, almanac: &Almanac, random: &mut Random) {
+fn wide_arcs(checks: &mut Checks, almanac: &Almanac, random: &mut Random, edition: u32) {
     for _ in 0..2000 {
         let given = random.below(1 << 9) << 4 | random.below(2);
-        let mut query = random_query(random, almanac, given, 800);
+        let mut query = random_query(random, almanac, edition, given, 800);
         for arc in query.arcs.iter_mut().flatten() {
             arc.width = random.between(1_000_000, 1_296_000);
         }
@@ -82,28 +83,35 @@ fn wide_arcs(checks: &mut Checks, almanac: &Almanac, random: &mut Random) {
 }
 
 /// The whole span: with no condition, and with a tithi and an arc of the node that crosses 0.
-fn whole(checks: &mut Checks, almanac: &Almanac, random: &mut Random) {
+fn whole(checks: &mut Checks, almanac: &Almanac, random: &mut Random, edition: u32) {
     let mut query = Query::without_conditions(0, LAST_DAY);
+    query.edition = edition;
     compare(checks, almanac, random, &query);
     query.tithi = Some(14);
     query.arcs[3] = Some(Arc::new(1_200_000, 200_000));
     compare(checks, almanac, random, &query);
 }
 
-/// The largest value of each condition, and the smallest that is refused.
-fn ranges(checks: &mut Checks, almanac: &Almanac, random: &mut Random) {
-    for past in [0, 1] {
-        for query in at_range_ends((1000, 1400), past) {
-            compare(checks, almanac, random, &query);
+/// The largest value of each condition, and the smallest that is refused, with sound and refused
+/// spans, in editions that there are and that there aren't: of several faults 14 comes before 2, then
+/// 5, then 6, and 7 last.
+fn order(checks: &mut Checks, almanac: &Almanac, random: &mut Random) {
+    for span in [(1000, 1400)].into_iter().chain(REFUSED_SPANS) {
+        let queries = [0, 1].map(|past| at_range_ends(span, past)).concat();
+        for mut query in queries {
+            for edition in EDITIONS.into_iter().chain(NO_EDITIONS) {
+                query.edition = edition;
+                compare(checks, almanac, random, &query);
+            }
         }
     }
 }
 
 /// Any conditions, some of them ill-formed.
-fn refused(checks: &mut Checks, almanac: &Almanac, random: &mut Random) {
+fn refused(checks: &mut Checks, almanac: &Almanac, random: &mut Random, edition: u32) {
     for _ in 0..4000 {
         let given = random.below(1 << 13);
-        let mut query = random_query(random, almanac, given, 400);
+        let mut query = random_query(random, almanac, edition, given, 400);
         spoil(random, &mut query);
         compare(checks, almanac, random, &query);
     }
@@ -118,11 +126,13 @@ fn no_queries(checks: &mut Checks, random: &mut Random) {
 
 pub fn run(checks: &mut Checks, almanac: &Almanac) {
     let mut random = Random::from_seed();
-    combinations(checks, almanac, &mut random);
-    few_conditions(checks, almanac, &mut random);
-    wide_arcs(checks, almanac, &mut random);
-    whole(checks, almanac, &mut random);
-    ranges(checks, almanac, &mut random);
-    refused(checks, almanac, &mut random);
+    for edition in EDITIONS {
+        combinations(checks, almanac, &mut random, edition);
+        few_conditions(checks, almanac, &mut random, edition);
+        wide_arcs(checks, almanac, &mut random, edition);
+        whole(checks, almanac, &mut random, edition);
+        refused(checks, almanac, &mut random, edition);
+    }
+    order(checks, almanac, &mut random);
     no_queries(checks, &mut random);
 }

@@ -1,6 +1,6 @@
 //! Searches with just as many matching days as the library keeps while it counts, with one more or
-//! less, with about twice as many, with none and with one; each with lists about these lengths. Days
-//! that were lost, or came twice, where the kept ones end would show here.
+//! less, with about twice as many, with none and with one; each with lists about these lengths, and in
+//! both editions. Days that were lost, or came twice, where the kept ones end would show here.
 
 use std::collections::{BTreeMap, BTreeSet};
 
@@ -16,6 +16,7 @@ use super::host_search::HostSearch;
 use super::queries::{most_entries, Span};
 use super::query_bytes::encode;
 use super::searches::{compare_lists, with_tails, SearchCalls};
+use super::{EDITIONS, NO_EDITIONS};
 
 /// So many matching days the library keeps while it counts. No answer depends on it: the comparison
 /// only chooses its cases by it.
@@ -165,7 +166,7 @@ fn host(checks: &mut Checks, almanac: &Almanac, sun: Arc, weekday: u32, places: 
     }
 }
 
-/// Over the bridge.
+/// Over the bridge; and each span once more in an edition that there isn't.
 fn bridge(
     checks: &mut Checks,
     almanac: &Almanac,
@@ -174,11 +175,17 @@ fn bridge(
     places: &[Place],
 ) {
     let spans = cut(almanac, &conditions, places);
-    let mut query = conditions;
+    let mut query = conditions.clone();
     for (span, count) in spans {
         (query.first, query.last) = span;
+        query.edition = conditions.edition;
         let bytes = encode(random, &query);
         compare(checks, almanac, &query, count, &BridgeSearch { bytes });
+        query.edition = random.one_of(&NO_EDITIONS);
+        let bytes = encode(random, &query);
+        let lengths = with_tails([0, count, KEPT]);
+        let refused = query.search(almanac);
+        compare_lists(checks, &BridgeSearch { bytes }, &refused, lengths);
     }
 }
 
@@ -217,7 +224,7 @@ fn with_arcs(arcs: &[(usize, Arc)]) -> Query {
 
 /// All days; one in a week or a month; runs of days with a fortnight to 29 years between them; and
 /// Sun arcs of one day in most years, of two, and of some KEPT.
-fn general_searches(checks: &mut Checks, almanac: &Almanac) {
+fn general_searches(checks: &mut Checks, almanac: &Almanac, edition: u32) {
     let mut weekday = any_day();
     weekday.weekday = Some(2);
     let mut tithi = any_day();
@@ -251,12 +258,15 @@ fn general_searches(checks: &mut Checks, almanac: &Almanac) {
         (with_arcs(&[sun(0, 30 * DEGREE), saturn(100_000)]), &[Quiet]),
     ];
     let mut random = Random::from_seed();
-    for (conditions, places) in searches {
+    for (mut conditions, places) in searches {
+        conditions.edition = edition;
         bridge(checks, almanac, &mut random, conditions, places);
     }
 }
 
 pub fn run(checks: &mut Checks, almanac: &Almanac) {
     host_searches(checks, almanac);
-    general_searches(checks, almanac);
+    for edition in EDITIONS {
+        general_searches(checks, almanac, edition);
+    }
 }

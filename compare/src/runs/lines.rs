@@ -1,5 +1,6 @@
-//! The catalogue's heading and lines, put into lent buffers of every length: the numbers that the
-//! calls give, every byte of the buffer, and the text that the pieces make together.
+//! The catalogue's heading and lines in both editions, put into lent buffers of every length: the
+//! numbers that the calls give, every byte of the buffer, and the text that the pieces make together;
+//! and what editions that there aren't give.
 
 use std::collections::{BTreeMap, BTreeSet};
 
@@ -7,14 +8,15 @@ use crate::calls::*;
 use crate::checks::Checks;
 use crate::random::Random;
 use crate::reference::almanac::Almanac;
-use crate::reference::catalogue::{self, Put};
+use crate::reference::catalogue::{self, Lines, Put};
 use crate::reference::days::LAST_DAY;
-use crate::reference::refusal::{Answer, LIST_TOO_SHORT, OUT_OF_RANGE};
+use crate::reference::edition::Edition;
+use crate::reference::refusal::{Answer, LIST_TOO_SHORT, NO_SUCH_EDITION, OUT_OF_RANGE};
 
 use super::lent::Lent;
 use super::queries::random_query;
 use super::query_bytes::numbers;
-use super::WIDTH_EDGES;
+use super::{EDITIONS, NO_EDITIONS, WIDTH_EDGES};
 
 /// The longest buffer of those that are tried one by one.
 const MOST_ROOM: usize = 700;
@@ -43,30 +45,46 @@ const FAR_ENTRIES: [u32; 8] = [
     u32::MAX,
 ];
 
-/// A list as bytes, and the line of each of its entries.
+/// A list as bytes, and the line of each of its entries in an edition.
 struct Listed {
+    edition: u32,
     bytes: Vec<u8>,
-    lines: Vec<Answer<String>>,
+    lines: Answer<Lines>,
 }
 
 impl Listed {
     /// The entries' bytes and a tail of 0 to 3.
-    fn new(almanac: &Almanac, entries: &[u32], tail: usize) -> Listed {
+    fn new(almanac: &Almanac, edition: u32, entries: &[u32], tail: usize) -> Listed {
         let mut bytes: Vec<u8> = entries.iter().flat_map(|day| day.to_le_bytes()).collect();
         bytes.extend(&[1, 0, 0][..tail]);
-        let lines = catalogue::lines(almanac, &bytes);
-        Listed { bytes, lines }
+        let lines = catalogue::lines(almanac, edition, &bytes);
+        Listed {
+            edition,
+            bytes,
+            lines,
+        }
     }
 
     fn entries(&self) -> u32 {
-        self.lines.len() as u32
+        self.bytes.len() as u32 / 4
+    }
+
+    /// The lines; none in an edition that there isn't.
+    fn lines(&self) -> &[Answer<String>] {
+        self.lines.as_deref().unwrap_or_default()
+    }
+
+    fn longest_line(&self) -> usize {
+        let lengths = self.lines().iter().flatten().map(String::len);
+        lengths.max().unwrap_or(0)
     }
 
     /// Cut where it is long.
     fn shown(&self) -> String {
         let entries = numbers(&self.bytes);
         let start = &entries[..entries.len().min(40)];
-        format!("a list of {} bytes: {start:?}", self.bytes.len())
+        let (edition, length) = (self.edition, self.bytes.len());
+        format!("edition {edition}, a list of {length} bytes: {start:?}")
     }
 }
 
@@ -103,23 +121,26 @@ fn compare_calls(
 /// The lines of the entries from one on.
 fn compare(checks: &mut Checks, list: &Listed, from: u32, room: usize) -> Put {
     let expected = catalogue::put_lines(&list.lines, from, room);
+    let edition = list.edition;
     let (bytes, count) = (list.bytes.as_ptr(), list.bytes.len());
     let calls: [Call; 3] = [
         (
             "bridge_lines_result",
             &|buffer, room| unsafe {
-                bridge_lines_result(bytes, count, from, buffer, room) as usize
+                bridge_lines_result(edition, bytes, count, from, buffer, room) as usize
             },
             |put| put.result as usize,
         ),
         (
             "bridge_lines_bytes",
-            &|buffer, room| unsafe { bridge_lines_bytes(bytes, count, from, buffer, room) },
+            &|buffer, room| unsafe {
+                bridge_lines_bytes(edition, bytes, count, from, buffer, room)
+            },
             |put| put.bytes,
         ),
         (
             "bridge_lines_next",
-            &|buffer, room| unsafe { bridge_lines_next(bytes, count, from, buffer, room) },
+            &|buffer, room| unsafe { bridge_lines_next(edition, bytes, count, from, buffer, room) },
             |put| put.next,
         ),
     ];
@@ -128,27 +149,35 @@ fn compare(checks: &mut Checks, list: &Listed, from: u32, room: usize) -> Put {
     Put { text, ..expected }
 }
 
-fn compare_heading(checks: &mut Checks, length: u32, looked: u32, room: usize) -> Put {
-    let expected = catalogue::put_heading(length, looked, room);
+fn compare_heading(
+    checks: &mut Checks,
+    edition: u32,
+    length: u32,
+    looked: u32,
+    room: usize,
+) -> Put {
+    let expected = catalogue::put_heading(edition, length, looked, room);
     let calls: [Call; 2] = [
         (
             "bridge_heading_result",
-            &|buffer, room| unsafe { bridge_heading_result(length, looked, buffer, room) as usize },
+            &|buffer, room| unsafe {
+                bridge_heading_result(edition, length, looked, buffer, room) as usize
+            },
             |put| put.result as usize,
         ),
         (
             "bridge_heading_bytes",
-            &|buffer, room| unsafe { bridge_heading_bytes(length, looked, buffer, room) },
+            &|buffer, room| unsafe { bridge_heading_bytes(edition, length, looked, buffer, room) },
             |put| put.bytes,
         ),
     ];
-    let input = || format!("length {length}, looked {looked}");
+    let input = || format!("edition {edition}, length {length}, looked {looked}");
     let text = compare_calls(checks, &calls, input, &expected, room);
     Put { text, ..expected }
 }
 
 /// The text that is made from entry to entry by buffers of one length. Where a line doesn't fit, a
-/// buffer of the length that would do is lent once; an entry that is no day is passed over.
+/// buffer of the length that would do is lent once; an entry that is refused is passed over.
 fn text_in_pieces(checks: &mut Checks, list: &Listed, room: usize) -> Vec<u8> {
     let mut text = Vec::new();
     let mut from = 0;
@@ -158,7 +187,7 @@ fn text_in_pieces(checks: &mut Checks, list: &Listed, room: usize) -> Vec<u8> {
             put = compare(checks, list, from, put.bytes);
         }
         from = match put.result {
-            OUT_OF_RANGE => from + 1,
+            OUT_OF_RANGE | NO_SUCH_EDITION => from + 1,
             _ => put.next as u32,
         };
         text.extend(put.text);
@@ -169,7 +198,7 @@ fn text_in_pieces(checks: &mut Checks, list: &Listed, room: usize) -> Vec<u8> {
 /// The pieces together are the lines of all the listed days, each once, in order.
 fn compare_pieces(checks: &mut Checks, list: &Listed, room: usize) {
     let came = text_in_pieces(checks, list, room);
-    let expected: String = list.lines.iter().flatten().map(String::as_str).collect();
+    let expected: String = list.lines().iter().flatten().map(String::as_str).collect();
     let input = || format!("{}, by buffers of {room} bytes", list.shown());
     checks.same_bytes("the pieces together", input, expected.as_bytes(), &came);
 }
@@ -200,7 +229,7 @@ fn sharp_rooms(checks: &mut Checks, random: &mut Random, list: &Listed) {
     for from in 0..=list.entries() + 1 {
         let mut rooms = BTreeSet::from([0, 1, MOST_ROOM, random.below(300) as usize]);
         let mut end = 0;
-        for line in list.lines.iter().skip(from as usize) {
+        for line in list.lines().iter().skip(from as usize) {
             end += line.as_ref().map_or(0, String::len);
             rooms.extend([end.saturating_sub(1), end, end + 1]);
         }
@@ -211,8 +240,7 @@ fn sharp_rooms(checks: &mut Checks, random: &mut Random, list: &Listed) {
     for from in FAR_ENTRIES {
         compare(checks, list, from, 100);
     }
-    let longest = list.lines.iter().flatten().map(String::len).max();
-    let longest = longest.unwrap_or(0);
+    let longest = list.longest_line();
     let room = random.between(0, 400) as usize;
     for room in [0, longest, longest + 1, 2 * longest, room] {
         compare_pieces(checks, list, room);
@@ -220,10 +248,15 @@ fn sharp_rooms(checks: &mut Checks, random: &mut Random, list: &Listed) {
 }
 
 /// For each length that a line has, the first day, the last and some between.
-fn days_by_length(almanac: &Almanac, random: &mut Random) -> BTreeMap<usize, Vec<u32>> {
+fn days_by_length(
+    almanac: &Almanac,
+    random: &mut Random,
+    edition: u32,
+) -> BTreeMap<usize, Vec<u32>> {
     let mut days: BTreeMap<usize, Vec<u32>> = BTreeMap::new();
+    let edition = Edition::numbered(edition).expect("an edition");
     for day in 0..=LAST_DAY {
-        let line = catalogue::line(almanac, day).expect("a day");
+        let line = catalogue::line(almanac, edition, day).expect("a day");
         days.entry(line.len()).or_default().push(day);
     }
     for of_length in days.values_mut() {
@@ -235,8 +268,9 @@ fn days_by_length(almanac: &Almanac, random: &mut Random) -> BTreeMap<usize, Vec
 }
 
 /// Lists of all kinds of days, some of them with numbers that are none, and tails.
-fn chosen(checks: &mut Checks, almanac: &Almanac, random: &mut Random) {
-    let by_length = days_by_length(almanac, random);
+fn chosen(checks: &mut Checks, almanac: &Almanac, random: &mut Random, edition: u32) {
+    let listed = |entries: &[u32], tail| Listed::new(almanac, edition, entries, tail);
+    let by_length = days_by_length(almanac, random, edition);
     let lengths: Vec<usize> = by_length.keys().copied().collect();
     let (shortest, longest) = (lengths[0], lengths[lengths.len() - 1]);
     let extremes = [&by_length[&shortest][..], &by_length[&longest]].concat();
@@ -261,33 +295,33 @@ fn chosen(checks: &mut Checks, almanac: &Almanac, random: &mut Random) {
         &[300, 70_000, 0x0007_0000, 400_000],
     ];
     for (at, entries) in lists.into_iter().enumerate() {
-        every_room(checks, &Listed::new(almanac, entries, at % 4));
+        every_room(checks, &listed(entries, at % 4));
     }
     for tail in 0..4 {
         for entries in [&[][..], &[0], &[22_844, 22_845]] {
-            every_room(checks, &Listed::new(almanac, entries, tail));
+            every_room(checks, &listed(entries, tail));
         }
     }
     for days in by_length.values() {
-        sharp_rooms(checks, random, &Listed::new(almanac, days, 0));
+        sharp_rooms(checks, random, &listed(days, 0));
     }
 }
 
 /// A number that is no day at each place of a list.
-fn no_day_at_each_place(checks: &mut Checks, almanac: &Almanac, random: &mut Random) {
+fn no_day_at_each_place(checks: &mut Checks, almanac: &Almanac, random: &mut Random, edition: u32) {
     let days = [(); 10].map(|()| random.below(LAST_DAY + 1));
     for place in 0..days.len() {
         for no_day in NO_DAYS {
             let mut entries = days;
             entries[place] = no_day;
-            let list = Listed::new(almanac, &entries, random.below(4) as usize);
+            let list = Listed::new(almanac, edition, &entries, random.below(4) as usize);
             sharp_rooms(checks, random, &list);
         }
     }
 }
 
 /// Random lists, every third of them with numbers that are no days at any places.
-fn random_lists(checks: &mut Checks, almanac: &Almanac, random: &mut Random) {
+fn random_lists(checks: &mut Checks, almanac: &Almanac, random: &mut Random, edition: u32) {
     for round in 0..600 {
         let mut entries: Vec<u32> = (0..random.below(24))
             .map(|_| random.below(LAST_DAY + 1))
@@ -301,30 +335,30 @@ fn random_lists(checks: &mut Checks, almanac: &Almanac, random: &mut Random) {
                 }
             }
         }
-        let list = Listed::new(almanac, &entries, random.below(4) as usize);
+        let list = Listed::new(almanac, edition, &entries, random.below(4) as usize);
         sharp_rooms(checks, random, &list);
     }
 }
 
 /// Every day's line: in lists of some days by buffers for one line and for a few, and in one list by
 /// large buffers.
-fn every_day(checks: &mut Checks, almanac: &Almanac, random: &mut Random) {
+fn every_day(checks: &mut Checks, almanac: &Almanac, random: &mut Random, edition: u32) {
     let days: Vec<u32> = (0..=LAST_DAY).collect();
     for some in days.chunks(500) {
-        let list = Listed::new(almanac, some, random.below(4) as usize);
-        let longest = list.lines.iter().flatten().map(String::len).max();
-        compare_pieces(checks, &list, longest.expect("a day"));
+        let list = Listed::new(almanac, edition, some, random.below(4) as usize);
+        compare_pieces(checks, &list, list.longest_line());
         let room = random.between(80, 4096) as usize;
         compare_pieces(checks, &list, room);
     }
-    let list = Listed::new(almanac, &days, 3);
+    let list = Listed::new(almanac, edition, &days, 3);
     for room in [65_536, 1 << 20, 1 << 24] {
         compare_pieces(checks, &list, room);
     }
 }
 
 /// Numbers of every width, and buffers of every length about the heading's own.
-fn headings(checks: &mut Checks, random: &mut Random) {
+fn headings(checks: &mut Checks, random: &mut Random, edition: u32) {
+    let named = Edition::numbered(edition).expect("an edition");
     let widths = (0..10).map(|power| 10_u32.pow(power));
     let mut counts: Vec<u32> = widths.flat_map(|first| [first - 1, first]).collect();
     counts.extend([6, 2311, 401_599, 401_600, 401_601]);
@@ -332,9 +366,9 @@ fn headings(checks: &mut Checks, random: &mut Random) {
     counts.extend([(); 10].map(|()| random.number()));
     for length in &counts {
         for looked in &counts {
-            let need = catalogue::heading(*length, *looked).len();
+            let need = catalogue::heading(named, *length, *looked).len();
             for room in [0, need - 1, need, need + 1, 100] {
-                compare_heading(checks, *length, *looked, room);
+                compare_heading(checks, edition, *length, *looked, room);
             }
         }
     }
@@ -346,21 +380,21 @@ fn headings(checks: &mut Checks, random: &mut Random) {
         (0, u32::MAX),
     ] {
         for room in (0..=MOST_ROOM).chain([4096, 65_536, 1 << 20]) {
-            compare_heading(checks, length, looked, room);
+            compare_heading(checks, edition, length, looked, room);
         }
     }
 }
 
 /// A heading and the pieces of a search's list are all that `find` prints for it.
-fn searches(checks: &mut Checks, almanac: &Almanac, random: &mut Random) {
+fn searches(checks: &mut Checks, almanac: &Almanac, random: &mut Random, edition: u32) {
     for _ in 0..300 {
         let given = 1 << random.below(13) | 1 << random.below(13);
-        let query = random_query(random, almanac, given, 1000);
+        let query = random_query(random, almanac, edition, given, 1000);
         let found = query.search(almanac).expect("the query is well-formed");
         let counts = [found.matching.len() as u32, found.visited.len() as u32];
         let room = random.between(100, 2000) as usize;
-        let list = Listed::new(almanac, &found.matching, 0);
-        let mut came = compare_heading(checks, counts[0], counts[1], room).text;
+        let list = Listed::new(almanac, edition, &found.matching, 0);
+        let mut came = compare_heading(checks, edition, counts[0], counts[1], room).text;
         came.extend(text_in_pieces(checks, &list, room));
         let expected = catalogue::text(almanac, &found);
         let input = || format!("{query:?}, by buffers of {room} bytes");
@@ -368,12 +402,38 @@ fn searches(checks: &mut Checks, almanac: &Almanac, random: &mut Random) {
     }
 }
 
+/// Editions that there aren't, with good and bad lists and entries, and headings, by buffers of many
+/// lengths.
+fn no_editions(checks: &mut Checks, almanac: &Almanac, random: &mut Random) {
+    for edition in NO_EDITIONS {
+        for entries in [&[][..], &[0], &[33_649, LAST_DAY + 1], &[u32::MAX, 5]] {
+            let tail = random.below(4) as usize;
+            every_room(checks, &Listed::new(almanac, edition, entries, tail));
+        }
+        for (length, looked) in [(0, 0), (6, 2311), (u32::MAX, u32::MAX)] {
+            for room in (0..=MOST_ROOM).chain([4096, 65_536]) {
+                compare_heading(checks, edition, length, looked, room);
+            }
+        }
+    }
+    for _ in 0..200 {
+        let edition = random.one_of(&NO_EDITIONS);
+        let mut entries = [(); 10].map(|()| random.below(LAST_DAY + 1));
+        entries[random.below(10) as usize] = random.one_of(&NO_DAYS);
+        let list = Listed::new(almanac, edition, &entries, random.below(4) as usize);
+        sharp_rooms(checks, random, &list);
+    }
+}
+
 pub fn run(checks: &mut Checks, almanac: &Almanac) {
     let mut random = Random::from_seed();
-    headings(checks, &mut random);
-    chosen(checks, almanac, &mut random);
-    no_day_at_each_place(checks, almanac, &mut random);
-    random_lists(checks, almanac, &mut random);
-    every_day(checks, almanac, &mut random);
-    searches(checks, almanac, &mut random);
+    for edition in EDITIONS {
+        headings(checks, &mut random, edition);
+        chosen(checks, almanac, &mut random, edition);
+        no_day_at_each_place(checks, almanac, &mut random, edition);
+        random_lists(checks, almanac, &mut random, edition);
+        every_day(checks, almanac, &mut random, edition);
+        searches(checks, almanac, &mut random, edition);
+    }
+    no_editions(checks, almanac, &mut random);
 }

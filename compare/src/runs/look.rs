@@ -8,6 +8,7 @@ use crate::checks::Checks;
 use crate::random::Random;
 use crate::reference::almanac::Almanac;
 use crate::reference::days::LAST_DAY;
+use crate::reference::edition::Edition;
 use crate::reference::longitudes::SUN;
 use crate::reference::refusal::{result_number, Answer, BAD_INPUT};
 use crate::reference::search::{Arc, Look, Query};
@@ -17,7 +18,7 @@ use super::queries::{
     REFUSED_SPANS,
 };
 use super::query_bytes::{encode, other_lengths, shown};
-use super::WIDTH_EDGES;
+use super::{EDITIONS, NO_EDITIONS, WIDTH_EDGES};
 
 /// The three numbers of a look.
 struct Came {
@@ -55,7 +56,7 @@ fn compare_bytes(checks: &mut Checks, expected: &Answer<Look>, query: &[u8], day
     came
 }
 
-fn compare(
+pub fn compare(
     checks: &mut Checks,
     almanac: &Almanac,
     random: &mut Random,
@@ -91,9 +92,9 @@ fn days_about(random: &mut Random, (first, last): Span) -> BTreeSet<u32> {
 
 /// Every combination of conditions given and not given, and spans moved off a day that meets them
 /// all: it fits no more, and is followed as before.
-fn combinations(checks: &mut Checks, almanac: &Almanac, random: &mut Random) {
+fn combinations(checks: &mut Checks, almanac: &Almanac, random: &mut Random, edition: u32) {
     for given in 0..1 << 13 {
-        let mut query = random_query(random, almanac, given, 400);
+        let mut query = random_query(random, almanac, edition, given, 400);
         let days = days_about(random, (query.first, query.last));
         compare(checks, almanac, random, &query, days);
         let found = query.search(almanac).expect("the query is well-formed");
@@ -116,7 +117,8 @@ fn combinations(checks: &mut Checks, almanac: &Almanac, random: &mut Random) {
     }
 }
 
-/// All days of the table, and some numbers behind it, by a few queries each.
+/// All days of the table, and some numbers behind it, by a few queries each; and by one whose edition
+/// there isn't.
 fn every_day(checks: &mut Checks, almanac: &Almanac, random: &mut Random) {
     let mut queries = [
         Query::of_host(0, LAST_DAY, Arc::new(1_295_000, 3600), 3),
@@ -126,17 +128,26 @@ fn every_day(checks: &mut Checks, almanac: &Almanac, random: &mut Random) {
     ];
     queries[2].nakshatra = Some(7);
     queries[2].arcs[3] = Some(Arc::new(1_200_000, 200_000));
-    queries[3].tithi = Some(almanac.days()[LAST_DAY as usize].tithi);
+    let last = almanac.days()[LAST_DAY as usize].elements(Edition::First);
+    queries[3].tithi = Some(last.tithi);
     queries[3].arcs[SUN] = Some(Arc::new(0, 1_296_000));
-    for query in queries {
-        compare(checks, almanac, random, &query, 0..=LAST_DAY + 1000);
-        compare(checks, almanac, random, &query, WIDTH_EDGES);
+    let mut every_day = |query: &Query| {
+        compare(checks, almanac, random, query, 0..=LAST_DAY + 1000);
+        compare(checks, almanac, random, query, WIDTH_EDGES);
+    };
+    for query in &mut queries {
+        for edition in EDITIONS {
+            query.edition = edition;
+            every_day(query);
+        }
     }
+    queries[0].edition = 3;
+    every_day(&queries[0]);
 }
 
 /// Arcs that start at each multiple of 3549 seconds ahead of a day's mean Sun and a second beside
 /// it, where the rounding up tells; and so far ahead as can be.
-fn jumps(checks: &mut Checks, almanac: &Almanac, random: &mut Random) {
+fn jumps(checks: &mut Checks, almanac: &Almanac, random: &mut Random, edition: u32) {
     let days = [
         0,
         4015,
@@ -150,6 +161,7 @@ fn jumps(checks: &mut Checks, almanac: &Almanac, random: &mut Random) {
     for day in days.into_iter().chain(drawn) {
         let place = almanac.days()[day as usize].mean[SUN];
         let mut query = Query::without_conditions(random.below(day + 1), LAST_DAY);
+        query.edition = edition;
         let multiples = (1..=365).map(|times| 3549 * times);
         for ahead in multiples.chain([1_295_999]) {
             for beside in [0, 1, 1_295_999] {
@@ -162,7 +174,8 @@ fn jumps(checks: &mut Checks, almanac: &Almanac, random: &mut Random) {
 }
 
 /// Each end of each condition's range and the first value past it, with every kind of span and of
-/// day: of several faults 2 comes before 5, and 5 before 6.
+/// day, in editions that there are and that there aren't: of several faults 14 comes before 2, 2
+/// before 5, and 5 before 6.
 fn order(checks: &mut Checks, almanac: &Almanac, random: &mut Random) {
     let sound = [
         (0, 0),
@@ -178,19 +191,22 @@ fn order(checks: &mut Checks, almanac: &Almanac, random: &mut Random) {
         for arc in REFUSED_ARCS {
             queries.extend([0, 6].map(|weekday| Query::of_host(span.0, span.1, arc, weekday)));
         }
-        for query in queries {
-            let mut days = days_about(random, span);
-            days.extend([999, 1000, 1200, 1400, 1401, LAST_DAY + 2, 1 << 31]);
-            compare(checks, almanac, random, &query, days);
+        for mut query in queries {
+            for edition in EDITIONS.into_iter().chain(NO_EDITIONS) {
+                let mut days = days_about(random, span);
+                days.extend([999, 1000, 1200, 1400, 1401, LAST_DAY + 2, 1 << 31]);
+                query.edition = edition;
+                compare(checks, almanac, random, &query, days);
+            }
         }
     }
 }
 
-/// Any conditions, some of them ill-formed, often with the span.
-fn refused(checks: &mut Checks, almanac: &Almanac, random: &mut Random) {
+/// Any conditions, some of them ill-formed, often with the span or the edition.
+fn refused(checks: &mut Checks, almanac: &Almanac, random: &mut Random, edition: u32) {
     for _ in 0..4000 {
         let given = random.below(1 << 13);
-        let mut query = random_query(random, almanac, given, 400);
+        let mut query = random_query(random, almanac, edition, given, 400);
         spoil(random, &mut query);
         let days = days_about(random, (query.first, query.last));
         compare(checks, almanac, random, &query, days);
@@ -232,7 +248,7 @@ fn compare_walk(checks: &mut Checks, almanac: &Almanac, random: &mut Random, que
 
 /// Walks of all kinds: short ones with any conditions, long ones with few, Sun arcs whose starts are
 /// a whole number of jumps ahead, and the whole table.
-fn walks(checks: &mut Checks, almanac: &Almanac, random: &mut Random) {
+fn walks(checks: &mut Checks, almanac: &Almanac, random: &mut Random, edition: u32) {
     for round in 0..3000 {
         let given = match round % 3 {
             0 => random.below(1 << 13),
@@ -240,12 +256,13 @@ fn walks(checks: &mut Checks, almanac: &Almanac, random: &mut Random) {
             _ => 1 << random.below(13) | 1 << 4,
         };
         let most = if round % 100 == 0 { LAST_DAY + 1 } else { 1000 };
-        let query = random_query(random, almanac, given, most);
+        let query = random_query(random, almanac, edition, given, most);
         compare_walk(checks, almanac, random, &query);
     }
     for _ in 0..1000 {
         let (first, last) = random_span(random, 2000);
         let mut query = Query::without_conditions(first, last);
+        query.edition = edition;
         query.arcs[SUN] = Some(if random.once_in(3) {
             random_arc(random)
         } else {
@@ -254,6 +271,7 @@ fn walks(checks: &mut Checks, almanac: &Almanac, random: &mut Random) {
         compare_walk(checks, almanac, random, &query);
     }
     let mut query = Query::without_conditions(0, LAST_DAY);
+    query.edition = edition;
     compare_walk(checks, almanac, random, &query);
     for (start, width) in [(0, 1), (0, 3600), (1_295_000, 108_000), (77, 1_296_000)] {
         query.arcs[SUN] = Some(Arc::new(start, width));
@@ -263,11 +281,13 @@ fn walks(checks: &mut Checks, almanac: &Almanac, random: &mut Random) {
 
 pub fn run(checks: &mut Checks, almanac: &Almanac) {
     let mut random = Random::from_seed();
-    combinations(checks, almanac, &mut random);
+    for edition in EDITIONS {
+        combinations(checks, almanac, &mut random, edition);
+        jumps(checks, almanac, &mut random, edition);
+        refused(checks, almanac, &mut random, edition);
+        walks(checks, almanac, &mut random, edition);
+    }
     every_day(checks, almanac, &mut random);
-    jumps(checks, almanac, &mut random);
     order(checks, almanac, &mut random);
-    refused(checks, almanac, &mut random);
     no_queries(checks, &mut random);
-    walks(checks, almanac, &mut random);
 }

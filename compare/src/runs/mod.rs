@@ -4,6 +4,7 @@ pub mod civil;
 pub mod day_input;
 pub mod day_sheet;
 pub mod days;
+pub mod elements;
 pub mod engraving;
 pub mod find;
 pub mod general_search;
@@ -15,12 +16,31 @@ pub mod longitudes;
 pub mod look;
 pub mod page_text;
 pub mod pairs;
+pub mod parted;
 pub mod programs;
 pub mod queries;
 pub mod query_bytes;
 pub mod saka;
 pub mod searches;
 pub mod worked;
+
+/// The editions that there are.
+pub const EDITIONS: [u32; 2] = [1, 2];
+
+/// Numbers that are no editions; the low bytes of some are an edition's.
+pub const NO_EDITIONS: [u32; 11] = [
+    0,
+    3,
+    14,
+    u32::MAX,
+    257,
+    258,
+    65_537,
+    65_538,
+    1 << 31,
+    (1 << 31) + 1,
+    (1 << 31) + 2,
+];
 
 /// Numbers at and about the powers of two where a narrower type would wrap.
 pub const WIDTH_EDGES: [u32; 13] = [

@@ -30,6 +30,16 @@ pub const SPANS: [&str; 16] = [
     "span 1612-5-14 33649",
 ];
 
+/// Editions that are accepted.
+pub const EDITION_LINES: [&str; 6] = [
+    "edition 1",
+    "edition 2",
+    "edition 01",
+    "edition 02",
+    "edition 000000001",
+    "edition 000000002",
+];
+
 /// Conditions that are accepted, but for the bodies'.
 pub const VALUES: [&str; 19] = [
     "weekday 0",
@@ -65,7 +75,7 @@ pub const ARCS: [&str; 7] = [
 ];
 
 /// Refused with 3. Some words are joined by what is no blank.
-pub const OTHER_FORMS: [&str; 97] = [
+pub const OTHER_FORMS: [&str; 121] = [
     "Span 10 20",
     "SPAN 10 20",
     "spans 10 20",
@@ -163,6 +173,46 @@ pub const OTHER_FORMS: [&str; 97] = [
     "saturn 1234567890 5",
     "saturn 5 5.5",
     "3 tithi",
+    "edition",
+    "edition 2 2",
+    "edition 1 2",
+    "edition 3 3",
+    "edition 2 3 4",
+    "Edition 2",
+    "EDITION 2",
+    "editions 2",
+    "editio 2",
+    "edition2",
+    "edition two",
+    "edition 2.",
+    "edition 2.0",
+    "edition +2",
+    "edition -1",
+    "edition 0x2",
+    "edition ii",
+    "edition monday",
+    "edition 2:0:0",
+    "edition 2-1-1",
+    "edition 0000000002",
+    "edition 1234567890",
+    "edition 4294967298",
+    "2 edition",
+];
+
+/// Refused with 14.
+pub const BAD_EDITIONS: [&str; 12] = [
+    "edition 0",
+    "edition 3",
+    "edition 14",
+    "edition 20",
+    "edition 000000000",
+    "edition 000000003",
+    "edition 257",
+    "edition 258",
+    "edition 65538",
+    "edition 16777218",
+    "edition 536870914",
+    "edition 999999999",
 ];
 
 /// Refused with 1.
@@ -329,6 +379,10 @@ pub fn lines_of(random: &mut Random, almanac: &Almanac, query: &Query) -> Vec<Li
     let mut add = |word: &str, values: Vec<String>| {
         lines.push([vec![word.to_string()], values].concat());
     };
+    // Edition 1 need not be said.
+    if query.edition != 1 || random.once_in(2) {
+        add("edition", vec![number(random, query.edition)]);
+    }
     if let Some(value) = query.weekday {
         add("weekday", vec![weekday(random, value)]);
     }

@@ -3,8 +3,11 @@
 use crate::random::Random;
 use crate::reference::almanac::{Almanac, Day};
 use crate::reference::days::LAST_DAY;
+use crate::reference::edition::Edition;
 use crate::reference::longitudes::SUN;
 use crate::reference::search::{Arc, Query};
+
+use super::NO_EDITIONS;
 
 /// First and last day.
 pub type Span = (u32, u32);
@@ -60,6 +63,25 @@ pub fn random_span(random: &mut Random, most: u32) -> Span {
         _ => random.between(0, latest_first),
     };
     (first, first + days - 1)
+}
+
+/// A span moved so that it holds a day.
+fn moved_to(random: &mut Random, (first, last): Span, day: u32) -> Span {
+    let behind = last - first;
+    let first = random.between(day.saturating_sub(behind), day.min(LAST_DAY - behind));
+    (first, first + behind)
+}
+
+/// A span of at most `most` days, and a day in it: every third time one whose limbs differ from
+/// edition to edition.
+fn random_target(random: &mut Random, almanac: &Almanac, most: u32) -> (Span, u32) {
+    let span = random_span(random, most);
+    if random.once_in(3) {
+        let day = random.one_of(almanac.parted());
+        (moved_to(random, span, day), day)
+    } else {
+        (span, random.between(span.0, span.1))
+    }
 }
 
 /// A width, often at an edge.
@@ -119,17 +141,30 @@ fn value_near(random: &mut Random, own: u32, values: u32) -> u32 {
     }
 }
 
-/// A query whose given conditions are the bits of `given`: the four values, then the nine arcs.
-/// Mostly they are chosen so that one day of the span meets them all.
-pub fn random_query(random: &mut Random, almanac: &Almanac, given: u32, most: u32) -> Query {
-    let (first, last) = random_span(random, most);
-    let target: &Day = &almanac.days()[random.between(first, last) as usize];
+/// A query in an edition, whose given conditions are the bits of `given`: the four values, then the
+/// nine arcs. Mostly they are chosen so that one day of the span meets them all; every eighth time
+/// they are that day's in either edition.
+pub fn random_query(
+    random: &mut Random,
+    almanac: &Almanac,
+    edition: u32,
+    given: u32,
+    most: u32,
+) -> Query {
+    let ((first, last), day) = random_target(random, almanac, most);
+    let target: &Day = &almanac.days()[day as usize];
     let mut query = Query::without_conditions(first, last);
+    query.edition = edition;
     let asked = |condition: usize| given >> condition & 1 == 1;
+    let mut named = Edition::numbered(edition).expect("an edition");
+    if random.once_in(8) {
+        named = random.one_of(&[Edition::First, Edition::Second]);
+    }
+    let elements = target.elements(named);
     query.weekday = asked(0).then(|| value_near(random, target.weekday, 7));
-    query.tithi = asked(1).then(|| value_near(random, target.tithi, 30));
-    query.nakshatra = asked(2).then(|| value_near(random, target.nakshatra, 27));
-    query.yoga = asked(3).then(|| value_near(random, target.yoga, 27));
+    query.tithi = asked(1).then(|| value_near(random, elements.tithi, 30));
+    query.nakshatra = asked(2).then(|| value_near(random, elements.nakshatra, 27));
+    query.yoga = asked(3).then(|| value_near(random, elements.yoga, 27));
     for body in 0..9 {
         query.arcs[body] = asked(4 + body).then(|| match random.below(16) {
             0 => random_arc(random),
@@ -164,19 +199,20 @@ pub fn at_range_ends((first, last): Span, past: u32) -> Vec<Query> {
     queries
 }
 
-/// Puts one or more of a query's given conditions out of range, or its span.
+/// Puts one or more of a query's given conditions out of range, or its span, or its edition.
 pub fn spoil(random: &mut Random, query: &mut Query) {
     let too_large = |random: &mut Random, largest: u32| {
         random.one_of(&[largest + 1, largest + 256, 1 << 31, u32::MAX])
     };
     for _ in 0..random.between(1, 3) {
-        match random.below(14) {
+        match random.below(15) {
             0 => query.weekday = Some(too_large(random, 6)),
             1 => query.tithi = Some(too_large(random, 29)),
             2 => query.nakshatra = Some(too_large(random, 26)),
             3 => query.yoga = Some(too_large(random, 26)),
             4 => (query.first, query.last) = random.one_of(&REFUSED_SPANS),
-            body => query.arcs[body as usize - 5] = Some(random.one_of(&REFUSED_ARCS)),
+            5 => query.edition = random.one_of(&NO_EDITIONS),
+            body => query.arcs[body as usize - 6] = Some(random.one_of(&REFUSED_ARCS)),
         }
     }
 }

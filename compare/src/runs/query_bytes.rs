@@ -1,12 +1,12 @@
-//! A query as the bridge takes it: 37 numbers of four bytes each, low byte first. They are first,
+//! A query as the bridge takes it: 38 numbers of four bytes each, low byte first. They are first,
 //! last; then for weekday, tithi, nakshatra and yoga "given" (0 is no, any other number yes) and the
-//! value; then for each body "given", start and width.
+//! value; then for each body "given", start and width; and last the edition.
 
 use crate::random::Random;
 use crate::reference::search::Query;
 
 /// Bytes of another length are refused with 3.
-pub const QUERY_LENGTH: usize = 148;
+pub const QUERY_LENGTH: usize = 152;
 
 /// "Given" and the numbers of a condition; where it isn't given the numbers are any.
 fn encode_condition<const N: usize>(
@@ -34,16 +34,22 @@ pub fn encode(random: &mut Random, query: &Query) -> Vec<u8> {
     for arc in query.arcs {
         encode_condition(random, &mut numbers, arc.map(|arc| [arc.start, arc.width]));
     }
+    numbers.push(query.edition);
     numbers.into_iter().flat_map(u32::to_le_bytes).collect()
 }
 
-/// Bytes of each other length up to twice the right one.
+/// Bytes of each other length up to twice the right one; the queries at their front are sound, or
+/// have an edition that there isn't.
 pub fn other_lengths(random: &mut Random) -> Vec<Vec<u8>> {
-    let bytes = encode(random, &Query::without_conditions(0, 9)).repeat(2);
-    (0..=bytes.len())
-        .filter(|length| *length != QUERY_LENGTH)
-        .map(|length| bytes[..length].to_vec())
-        .collect()
+    let mut others = Vec::new();
+    for edition in [1, 3] {
+        let mut query = Query::without_conditions(0, 9);
+        query.edition = edition;
+        let bytes = encode(random, &query).repeat(2);
+        let lengths = (0..=bytes.len()).filter(|length| *length != QUERY_LENGTH);
+        others.extend(lengths.map(|length| bytes[..length].to_vec()));
+    }
+    others
 }
 
 /// The numbers of four bytes each, low byte first; a tail under four bytes is left out.

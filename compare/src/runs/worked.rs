@@ -6,6 +6,7 @@ use crate::checks::Checks;
 use crate::reference::almanac::Almanac;
 use crate::reference::civil::Date;
 use crate::reference::days::LAST_DAY;
+use crate::reference::edition::Edition;
 use crate::reference::longitudes::{
     JUPITER, MARS, MERCURY_ANOMALY, MOON, MOON_APOGEE, SUN, VENUS_ANOMALY,
 };
@@ -104,16 +105,9 @@ fn places(checks: &mut Checks, almanac: &Almanac) {
         at_epoch,
         days[0].mean,
     );
-    let epoch = &days[0];
-    let came = [
-        epoch.sun,
-        epoch.moon,
-        epoch.tithi,
-        epoch.nakshatra,
-        epoch.yoga,
-        epoch.karana,
-    ];
-    let expected = [1266701, 1257257, 29, 26, 25, 10];
+    let epoch = days[0].elements(Edition::First);
+    let came = (epoch.sun, epoch.moon, epoch.limbs());
+    let expected = (1266701, 1257257, [29, 26, 25, 10]);
     checks.same(
         "true Sun and Moon, and limbs",
         || "day 0".to_string(),
@@ -166,6 +160,77 @@ fn thirds(checks: &mut Checks, almanac: &Almanac) {
         let input = || format!("body {body}, day 0 to day 1");
         checks.same("the motion in thirds", input, expected, after - before);
     }
+}
+
+/// L8: days reckoned apart from both programs. The Sun's equation is added on days 0, 2, 325, 727,
+/// 33649 and subtracted on 191, 194, 200, 507; limbs differ from edition to edition on 2, 191, 194,
+/// 325, 507, 727; the Moon passes 0 by the addition on 12022 and 13334; and on 455 and 820 it stays.
+fn second_rule(checks: &mut Checks, almanac: &Almanac) {
+    let cases = [
+        (0, [1257257, 1257547], [29, 26, 25, 10], [29, 26, 25, 10]),
+        (2, [64037, 64326], [1, 1, 0, 3], [2, 1, 0, 4]),
+        (191, [1237727, 1237441], [14, 25, 11, 7], [13, 25, 11, 6]),
+        (194, [96183, 95900], [17, 2, 15, 6], [17, 1, 15, 6]),
+        (200, [393775, 393501], [23, 8, 22, 5], [23, 8, 22, 5]),
+        (325, [1103856, 1104084], [29, 22, 19, 10], [29, 23, 19, 10]),
+        (455, [805670, 805670], [12, 16, 22, 3], [12, 16, 22, 3]),
+        (507, [692472, 692246], [5, 14, 24, 3], [5, 14, 23, 3]),
+        (727, [761566, 761856], [18, 15, 14, 2], [18, 15, 15, 2]),
+        (820, [1255315, 1255315], [22, 26, 4, 3], [22, 26, 4, 3]),
+        (12022, [1295846, 99], [3, 26, 24, 6], [3, 0, 24, 6]),
+        (13334, [262, 1295973], [15, 0, 12, 3], [15, 26, 12, 3]),
+        (33649, [737042, 737243], [14, 15, 18, 7], [14, 15, 18, 7]),
+    ];
+    for (number, moons, first, second) in cases {
+        for (edition, moon, limbs) in [(1, moons[0], first), (2, moons[1], second)] {
+            let elements = almanac.elements(edition, number);
+            let came = elements.map(|elements| (elements.moon, elements.limbs()));
+            let input = || format!("edition {edition}, day {number}");
+            checks.same("the Moon and the limbs", input, Ok((moon, limbs)), came);
+        }
+    }
+    for (edition, number) in [(0, 0), (3, 401599), (14, 401600), (u32::MAX, u32::MAX)] {
+        let input = || format!("edition {edition}, day {number}");
+        let came = almanac.elements(edition, number).err();
+        checks.same("another edition", input, Some(14), came);
+    }
+}
+
+/// The signed short way from one place to another.
+fn short_way(from: u32, to: u32) -> i64 {
+    let forwards = (i64::from(to) - i64::from(from)).rem_euclid(1_296_000);
+    if forwards < 648_000 {
+        forwards
+    } else {
+        forwards - 1_296_000
+    }
+}
+
+/// L8, on all days and from the places alone: the true Sun is one for both editions; the second Moon
+/// stands beside the first as the true Sun beside the mean Sun, a whole twenty-seventh as far and no
+/// further than 290 seconds; and where the Sun's equation is below 27 the two agree.
+fn moons_apart(checks: &mut Checks, almanac: &Almanac) {
+    let mut farthest = 0;
+    for (number, day) in almanac.days().iter().enumerate() {
+        let input = || format!("day {number}");
+        let [first, second] =
+            [Edition::First, Edition::Second].map(|edition| day.elements(edition));
+        checks.same("one true Sun", input, first.sun, second.sun);
+        let equation = short_way(day.mean[SUN], first.sun);
+        let apart = short_way(first.moon, second.moon);
+        let left = equation - 27 * apart;
+        let whole = left.abs() < 27 && left * equation >= 0;
+        checks.same("a twenty-seventh", input, true, whole);
+        checks.same("one side", input, true, apart * equation >= 0);
+        let size = apart.unsigned_abs() as u32;
+        checks.at_most("the Moons' distance", input, 290, size);
+        if equation.abs() < 27 {
+            checks.same("the Moons agree", input, first.moon, second.moon);
+        }
+        farthest = farthest.max(size);
+    }
+    let table = || "the table".to_string();
+    checks.same("the largest distance", table, 290, farthest);
 }
 
 /// "Days on both sides", the Saka dates; and document 000's example of a year whose extra month is
@@ -284,7 +349,8 @@ fn epoch_plate(checks: &mut Checks, almanac: &Almanac) {
     checks.same("the plate", input, expected.to_string(), came);
 }
 
-/// "Days on both sides" as pages: the limbs of two days, and the search's beginning.
+/// "Days on both sides" as pages: the limbs of two days, and the search's beginning; and L8's day 2,
+/// whose tithi differs from edition to edition.
 fn pages(checks: &mut Checks, almanac: &Almanac) {
     let heading = "day date weekday tithi nakshatra yoga karana";
     let cases = [
@@ -303,6 +369,21 @@ fn pages(checks: &mut Checks, almanac: &Almanac) {
             "found 2 looked 5",
             "11 1520-3-30 friday ",
         ),
+        (
+            "edition 2\nspan 2 2\n",
+            "found 1 looked 1 edition 2",
+            "2 1520-3-21 wednesday 2 1 0 4\n",
+        ),
+        (
+            "span 2 2\nedition 1\n",
+            "found 1 looked 1",
+            "2 1520-3-21 wednesday 1 1 0 3\n",
+        ),
+        (
+            "span 2 2\nedition 2\ntithi 1\n",
+            "found 0 looked 1 edition 2",
+            "",
+        ),
     ];
     for (page, counts, days) in cases {
         let expected = format!("{counts}\n{heading}\n{days}");
@@ -314,6 +395,9 @@ fn pages(checks: &mut Checks, almanac: &Almanac) {
         ("span 1520-3-18 5\n", 2),
         ("span 1582-10-10 5\n", 1),
         ("span 5 2619-10-14\n", 2),
+        ("edition 2 2\n", 3),
+        ("edition 3\n", 14),
+        ("x\nspan 9 5\nedition 14\n", 14),
     ] {
         let expected = format!("refused {refusal}\n");
         let came = printed(almanac, page.as_bytes()).output;
@@ -326,6 +410,8 @@ pub fn run(checks: &mut Checks, almanac: &Almanac) {
     every_day(checks, almanac);
     places(checks, almanac);
     thirds(checks, almanac);
+    second_rule(checks, almanac);
+    moons_apart(checks, almanac);
     saka_dates(checks);
     a_month_earlier(checks);
     search(checks, almanac);

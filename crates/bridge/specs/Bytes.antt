@@ -1,4 +1,4 @@
--- A query as bytes: 37 numbers, as the entries of a list are.
+-- A query as bytes: 38 numbers, as the entries of a list are.
 -- Assumes nothing.
 use mathlib.Core.Bool.{Bool, not}
 use mathlib.Core.List.{List, [], _∷_, map}
@@ -10,7 +10,7 @@ use Rattle.query.specs.declared.Query.{Query}
 use Rattle.entries.specs.Entries.{entryAt}
 
 abbrev pub queryBytes : ℕ
-queryBytes = 148
+queryBytes = 152
 
 -- number k of the bytes
 abbrev pub numberFrom : List ℕ → ℕ → ℕ
@@ -32,12 +32,13 @@ arcFrom bytes k = record { given = givenFrom bytes k; start = numberFrom bytes (
 unfoldable pub arcsFrom : List ℕ → List Arc
 arcsFrom bytes = map (arcFrom bytes) (10 ∷ 13 ∷ 16 ∷ 19 ∷ 22 ∷ 25 ∷ 28 ∷ 31 ∷ 34 ∷ [])
 
--- first and last day, weekday, tithi, nakshatra, yoga, and the arcs
+-- first and last day, weekday, tithi, nakshatra, yoga, the arcs, and the edition
 unfoldable pub queryFrom : List ℕ → Query
 queryFrom bytes =
     record {
       first = numberFrom bytes 0;
       last = numberFrom bytes 1;
+      edition = numberFrom bytes 37;
       weekday = askedFrom bytes 2;
       tithi = askedFrom bytes 4;
       nakshatra = askedFrom bytes 6;

@@ -1,5 +1,6 @@
 pub mod Bytes
 pub mod Answers
 pub mod Bodies
+pub mod Elements
 pub mod Numbers
 pub mod Pieces

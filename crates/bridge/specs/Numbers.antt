@@ -4,7 +4,9 @@ use mathlib.Core.Bool.{cond}
 use mathlib.Core.List.{List}
 use mathlib.Core.Path.{_≡_}
 use Prim.Native.Nat.{ℕ}
+use Rattle.days.specs.declared.NumberAnswer.{NumberAnswer}
 use Rattle.longitudes.specs.declared.MeanLongitude.{MeanLongitude}
+use Rattle.panchanga.specs.declared.Panchanga.{Panchanga}
 use Rattle.search.specs.declared.Found.{Found}
 use Rattle.bridge.specs.declared.looks.Look.{Look}
 use Rattle.bridge.specs.Answers.{bridgeLength, bridgeLooked, bridgeExamined}
@@ -23,3 +25,16 @@ pub record BridgeLongitude (meant found : MeanLongitude) : Type 0 where
   pub seconds : found .seconds ≡ meant .seconds
   pub remainder : found .remainder ≡ meant .remainder
   pub divisor : found .divisor ≡ meant .divisor
+
+pub record BridgeElements (meant found : Panchanga) : Type 0 where
+  pub refusal : found .refusal ≡ meant .refusal
+  pub sun : found .sun ≡ meant .sun
+  pub moon : found .moon ≡ meant .moon
+  pub tithi : found .tithi ≡ meant .tithi
+  pub nakshatra : found .nakshatra ≡ meant .nakshatra
+  pub yoga : found .yoga ≡ meant .yoga
+  pub karana : found .karana ≡ meant .karana
+
+pub record BridgeElement (meant found : NumberAnswer) : Type 0 where
+  pub refusal : found .refusal ≡ meant .refusal
+  pub number : found .number ≡ meant .number

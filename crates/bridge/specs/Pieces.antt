@@ -5,15 +5,15 @@ use mathlib.Core.List.{List}
 use Prim.Native.Nat.{ℕ}
 use lib.ListN.{length}
 use Rattle.catalogue.specs.declared.Piece.{Piece}
-use Rattle.catalogue.specs.Pieces.{linesPiece, linesAfter, headingPiece, headingAfter}
+use Rattle.catalogue.specs.Pieces.{linesPiece, linesAfter, headingPiece, headingAfter, ofEdition, leftInEdition}
 
-pub record BridgeLines (list : List ℕ) (from : ℕ) (before : List ℕ) (piece : Piece) (after : List ℕ) : Type 0 where
-  pub result : piece .refusal ≡ linesPiece list from (length before) .refusal
-  pub bytes : piece .bytes ≡ linesPiece list from (length before) .bytes
-  pub next : piece .next ≡ linesPiece list from (length before) .next
-  pub buffer : after ≡ linesAfter list from before
+pub record BridgeLines (ed : ℕ) (list : List ℕ) (from : ℕ) (before : List ℕ) (piece : Piece) (after : List ℕ) : Type 0 where
+  pub result : piece .refusal ≡ ofEdition ed (linesPiece ed list from (length before)) .refusal
+  pub bytes : piece .bytes ≡ ofEdition ed (linesPiece ed list from (length before)) .bytes
+  pub next : piece .next ≡ ofEdition ed (linesPiece ed list from (length before)) .next
+  pub buffer : after ≡ leftInEdition ed before (linesAfter ed list from before)
 
-pub record BridgeHeading (found examined : ℕ) (before : List ℕ) (piece : Piece) (after : List ℕ) : Type 0 where
-  pub result : piece .refusal ≡ headingPiece found examined (length before) .refusal
-  pub bytes : piece .bytes ≡ headingPiece found examined (length before) .bytes
-  pub buffer : after ≡ headingAfter found examined before
+pub record BridgeHeading (ed found examined : ℕ) (before : List ℕ) (piece : Piece) (after : List ℕ) : Type 0 where
+  pub result : piece .refusal ≡ ofEdition ed (headingPiece ed found examined (length before)) .refusal
+  pub bytes : piece .bytes ≡ ofEdition ed (headingPiece ed found examined (length before)) .bytes
+  pub buffer : after ≡ leftInEdition ed before (headingAfter ed found examined before)

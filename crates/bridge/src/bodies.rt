@@ -1,5 +1,4 @@
 // A body's mean longitude as C calls, each number of its answer by a call of its own.
-use days::Day;
 use longitudes::Body;
 use longitudes::MeanLongitude;
 ghost use mathlib.Core.Path.{_≡_};
@@ -25,15 +24,10 @@ fn body_of(number: u32) -> Body
     }
 }
 
-// Past the last day the pair is out of range, and refused.
 fn longitude(body: u32, day: u32) -> MeanLongitude
     ensures { λ r. ⌜ BridgeLongitude (longitudeOf (bodyFrom body) (pairAt day)) r ⌝ }
 {
-    let pair = Day {
-        cycle: day / Day::CYCLE_DAYS,
-        within: day % Day::CYCLE_DAYS,
-    };
-    longitudes::mean_longitude(body_of(body), pair)
+    longitudes::mean_longitude(body_of(body), super::pair(day))
 }
 
 #[no_mangle]

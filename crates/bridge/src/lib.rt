@@ -1,9 +1,11 @@
-// The general search, the look, the catalogue's pieces and the mean longitudes as C calls, for comparison runs and not for hosts: a query comes as 148 bytes, 37 numbers of four, low byte first.
-// They are the first and the last day; for weekday, tithi, nakshatra and yoga: given (0 no, any other number yes) and value; for each body: given, start and width.
+// The general search, the look, the catalogue's pieces, the mean longitudes and the elements as C calls, for comparison runs and not for hosts: a query comes as 152 bytes, 38 numbers of four, low byte first.
+// They are the first and the last day; for weekday, tithi, nakshatra and yoga: given (0 no, any other number yes) and value; for each body: given, start and width; and the edition.
 mod bodies;
+mod elements;
 mod looks;
 mod pieces;
 
+use days::Day;
 use days::refusal;
 use query::Arc;
 use query::Asked;
@@ -11,11 +13,22 @@ use query::Query;
 use search::Found;
 ghost use mathlib.Core.Path.{_≡_};
 ghost use Prim.Native.Nat.{_<_};
+ghost use Rattle.days.specs.Days.{pairAt};
 ghost use Rattle.bridge.specs.Bytes.{numberFrom, askedFrom, arcFrom, arcsFrom, queryFrom};
 ghost use Rattle.bridge.specs.Answers.{bridgeResult, bridgeList, bridgeLength, bridgeLooked};
 ghost use Rattle.bridge.specs.Numbers.{BridgeMeasured};
 
-const QUERY_BYTES: usize = 148;
+const QUERY_BYTES: usize = 152;
+
+// Past the last day the pair is out of range, and refused.
+fn pair(day: u32) -> Day
+    ensures { λ r. ⌜ r ≡ pairAt day ⌝ }
+{
+    Day {
+        cycle: day / Day::CYCLE_DAYS,
+        within: day % Day::CYCLE_DAYS,
+    }
+}
 
 fn number(query: &[u8], place: usize) -> u32
     ensures { λ r. ⌜ r ≡ numberFrom (now (query .entry)) place ⌝ }
@@ -72,9 +85,11 @@ fn query_of(query: &[u8]) -> Query
     let nakshatra = asked(query, 6);
     let yoga = asked(query, 8);
     let arcs = arcs(query);
+    let edition = number(query, 37);
     Query {
         first,
         last,
+        edition,
         weekday,
         tithi,
         nakshatra,

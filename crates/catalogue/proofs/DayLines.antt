@@ -7,7 +7,7 @@ use Prim.Native.Nat.{ℕ, zero, suc, _+_, _≤_, _<_}
 use native.Mathlib.Nat.{add-suc}
 use native.Mathlib.Omega.{arith}
 use borrow.Author.Tests.{le-leb}
-use lib.Dec.{ltb}
+use lib.Dec.{ltb, eqb}
 use lib.ListN.{length, length-append}
 use Rattle.civil.specs.declared.Date.{Date}
 use Rattle.civil.specs.declared.DateAnswer.{DateAnswer}
@@ -15,12 +15,14 @@ use Rattle.civil.specs.Calendar.{sameDate, lastJulian, firstGregorian, monthDay
 use Rattle.civil.specs.Answers.{dateOfDay}
 use Rattle.days.specs.declared.DayAnswer.{DayAnswer}
 use Rattle.days.specs.declared.NumberAnswer.{NumberAnswer}
-use Rattle.days.specs.Refusals.{accepted}
 use Rattle.days.specs.Days.{lastDay, pairAt, weekdayOn, weekdayAt, weekdayOf, dayOf}
 use Rattle.days.proofs.Laws.{that-day, day-of, pair-in-range, that-weekday, given-number}
 use Rattle.panchanga.specs.declared.Panchanga.{Panchanga}
-use Rattle.panchanga.specs.OnDays.{panchangaOf, trueSunAt, trueMoonAt, tithiAt, nakshatraAt, yogaAt, karanaAt}
+use Rattle.panchanga.specs.OnDays.{panchangaOf, tithiAt, nakshatraAt, yogaAt, karanaAt}
+use Rattle.panchanga.specs.TrueLongitudes.{secondEdition, isEdition}
+use Rattle.panchanga.proofs.Answers.{elements-given}
 use Rattle.panchanga.proofs.Bounds.{tithi-small, nakshatra-small, yoga-small, karana-range}
+use Rattle.text.specs.Ascii.{ascii}
 use Rattle.text.specs.Decimal.{digitsOf}
 use Rattle.text.specs.declared.Line.{Line}
 use Rattle.text.specs.Lines.{space, newline, lineCapacity, withByte, withBytes, spaced}
@@ -29,7 +31,7 @@ use Rattle.text.proofs.Printing.{digits-length, digits-some}
 use Rattle.words.specs.Names.{weekdayNames}
 use Rattle.words.specs.Words.{nameAt}
 use Rattle.words.proofs.Names.{noLonger, name-length}
-use Rattle.catalogue.specs.Catalogue.{catalogueHeading, dateBytes, elementBytes, dayLine}
+use Rattle.catalogue.specs.Catalogue.{editionText, catalogueHeading, dateBytes, elementBytes, dayLine}
 
 -- the bytes of a line, from a day's number, date, weekday's name and elements
 abbrev together : ℕ → List ℕ → List ℕ → List ℕ → List ℕ
@@ -43,27 +45,27 @@ put-together :
 put-together l n date name elements = simp (with-byte-is, with-bytes-append, append-assoc)
 
 of-pair :
-    (n : ℕ) →
+    (ed n : ℕ) →
     n ≤ lastDay →
-    together n (dateBytes (dateOfDay n .date)) (nameAt weekdayNames (weekdayOn n)) (elementBytes (panchangaOf (pairAt n)))
-    ≡ dayLine n
+    together n (dateBytes (dateOfDay n .date)) (nameAt weekdayNames (weekdayOn n)) (elementBytes (panchangaOf ed (pairAt n)))
+    ≡ dayLine ed n
 unfolding dayLine dateOfDay
-of-pair n h = rw (le-leb n lastDay h)
+of-pair ed n h = rw (le-leb n lastDay h)
 
 pub day-made :
-    (l : Line) (n : ℕ) (answer : DayAnswer) (found : DateAnswer) (weekday : NumberAnswer) (name : List ℕ) (p : Panchanga) →
+    (ed : ℕ) (l : Line) (n : ℕ) (answer : DayAnswer) (found : DateAnswer) (weekday : NumberAnswer) (name : List ℕ) (p : Panchanga) →
     n ≤ lastDay →
     answer ≡ dayOf n →
     found ≡ dateOfDay n →
     weekday ≡ weekdayOf (answer .day) →
     name ≡ nameAt weekdayNames (weekday .number) →
-    p ≡ panchangaOf (answer .day) →
+    p ≡ panchangaOf ed (answer .day) →
     withByte (withBytes (withBytes (withByte (withBytes (withByte (withBytes l (digitsOf n)) space) (dateBytes (found .date))) space) name) (elementBytes p)) newline
-    ≡ withBytes l (dayLine n)
-day-made l n answer found weekday name p h ea ef ew en ep =
+    ≡ withBytes l (dayLine ed n)
+day-made ed l n answer found weekday name p h ea ef ew en ep =
     let k = that-day n answer ea (ap (λ (a : DayAnswer). a .refusal) (ea ∙ day-of n h)) in
     let w : weekday .number ≡ weekdayOn n = given-number weekdayAt _ ew (k .range) ∙ that-weekday k in
-    put-together l n (dateBytes (found .date)) name (elementBytes p) ∙ ap (withBytes l) (rw (ep, k .pair, ef, en, w) (of-pair n h))
+    put-together l n (dateBytes (found .date)) name (elementBytes p) ∙ ap (withBytes l) (rw (ep, k .pair, ef, en, w) (of-pair ed n h))
 
 name-short : (n : ℕ) → length (nameAt weekdayNames n) ≤ 9
 unfolding noLonger
@@ -94,32 +96,38 @@ unfolding dateOn
 date-small zero = omega arith
 date-small (suc n) = rw (add-suc 1582 n) (next-small (1582 + n) (dateOn n) (omega arith) (date-small n))
 
-elements-small : (n : ℕ) → n ≤ lastDay → length (elementBytes (panchangaOf (pairAt n))) ≤ 12
-elements-small n h =
+elements-small : (ed n : ℕ) → isEdition ed ≡ true → n ≤ lastDay → length (elementBytes (panchangaOf ed (pairAt n))) ≤ 12
+elements-small ed n t h =
     let d = pairAt n in
-    let all : panchangaOf d ≡ record { refusal = accepted; sun = trueSunAt d; moon = trueMoonAt d; tithi = tithiAt d; nakshatra = nakshatraAt d; yoga = yogaAt d; karana = karanaAt d } =
-    unfold panchangaOf in rw (pair-in-range n h) in
-    let tithi = digits-length 1 (tithiAt d) (omega (arith, tithi-small d)) in
-    let nakshatra = digits-length 1 (nakshatraAt d) (omega (arith, nakshatra-small d)) in
-    let yoga = digits-length 1 (yogaAt d) (omega (arith, yoga-small d)) in
-    let karana = digits-length 1 (karanaAt d) (omega (arith, karana-range d)) in
-    rw all (unfold elementBytes spaced in simp length-append (omega arith))
+    let tithi = digits-length 1 (tithiAt ed d) (omega (arith, tithi-small ed d)) in
+    let nakshatra = digits-length 1 (nakshatraAt ed d) (omega (arith, nakshatra-small ed d)) in
+    let yoga = digits-length 1 (yogaAt ed d) (omega (arith, yoga-small ed d)) in
+    let karana = digits-length 1 (karanaAt ed d) (omega (arith, karana-range ed d)) in
+    rw (elements-given ed d (record { edition = t; range = pair-in-range n h })) (unfold elementBytes spaced in simp length-append (omega arith))
 
-pub line-fits : (n : ℕ) → n ≤ lastDay → length (dayLine n) ≤ lineCapacity
+pub line-fits : (ed n : ℕ) → isEdition ed ≡ true → n ≤ lastDay → length (dayLine ed n) ≤ lineCapacity
 unfolding dayLine dateBytes
-line-fits n h =
+line-fits ed n t h =
     let s = date-small n in
     let number = digits-length 5 n (omega arith) in
     let year = digits-length 5 (dateOn n .year) (omega (arith, s .year)) in
     let month = digits-length 5 (dateOn n .month) (omega (arith, s .month)) in
     let day = digits-length 5 (dateOn n .day) (omega (arith, s .day)) in
-    simp length-append (omega (arith, name-short (weekdayOn n), elements-small n h))
+    simp length-append (omega (arith, name-short (weekdayOn n), elements-small ed n t h))
 
-pub line-some : (n : ℕ) → 1 ≤ length (dayLine n)
+pub line-some : (ed n : ℕ) → 1 ≤ length (dayLine ed n)
 unfolding dayLine
-line-some n = simp length-append (omega (arith, digits-some n))
+line-some ed n = simp length-append (omega (arith, digits-some n))
 
-pub heading-fits : (found examined : ℕ) → found < 4294967296 → examined < 4294967296 → length (catalogueHeading found examined) ≤ lineCapacity
+edition-short : (ed : ℕ) → length (editionText ed) ≤ 10
+unfolding editionText
+edition-short ed = go (eqb ed secondEdition)
+  where
+    go : (t : Bool) → length (cond t (ascii " edition 2") []) ≤ 10
+    go true = omega arith
+    go false = omega arith
+
+pub heading-fits : (ed found examined : ℕ) → found < 4294967296 → examined < 4294967296 → length (catalogueHeading ed found examined) ≤ lineCapacity
 unfolding catalogueHeading
-heading-fits found examined h k =
-    simp length-append (omega (arith, digits-length 9 found (omega arith), digits-length 9 examined (omega arith)))
+heading-fits ed found examined h k =
+    simp length-append (omega (arith, digits-length 9 found (omega arith), digits-length 9 examined (omega arith), edition-short ed))

@@ -11,99 +11,109 @@ use lib.Dec.{leb}
 use lib.ListN.{length}
 use Rattle.days.specs.Refusals.{outOfRange, listTooShort}
 use Rattle.days.specs.Days.{lastDay}
+use Rattle.panchanga.specs.TrueLongitudes.{isEdition}
 use Rattle.catalogue.specs.declared.Piece.{Piece}
 use Rattle.catalogue.specs.Catalogue.{catalogueHeading, dayLine}
-use Rattle.catalogue.specs.Pieces.{listedFrom, dayLines, lineFits, printedDays, withFront, thePiece, noPiece, putPiece, pieceOf, linesPiece, linesAfter, headingPiece, headingAfter}
+use Rattle.catalogue.specs.Pieces.{listedFrom, dayLines, lineFits, printedDays, withFront, thePiece, noPiece, putPiece, pieceOf, linesPiece, linesAfter, headingPiece, headingAfter, ofEdition, leftInEdition}
 
-abbrev lineLength : ℕ → ℕ
-lineLength d = length (dayLine d)
+module _ (ed : ℕ) where
+  abbrev lineLength : ℕ → ℕ
+  lineLength d = length (dayLine ed d)
 
--- lines of days
-pub no-lines : (ds : List ℕ) → length ds ≡ 0 → length (dayLines ds) ≡ 0
-unfolding dayLines
-no-lines [] h = refl
-no-lines (d ∷ ds) h = absurd (omega arith)
+  -- lines of days
+  pub no-lines : (ds : List ℕ) → length ds ≡ 0 → length (dayLines ed ds) ≡ 0
+  unfolding dayLines
+  no-lines [] h = refl
+  no-lines (d ∷ ds) h = absurd (omega arith)
 
-pub fits : (room d : ℕ) → d ≤ lastDay → lineLength d ≤ room → lineFits room d ≡ true
-unfolding lineFits
-fits room d h k = rw (le-leb d lastDay h, le-leb (lineLength d) room k)
+  pub fits : (room d : ℕ) → d ≤ lastDay → lineLength d ≤ room → lineFits ed room d ≡ true
+  unfolding lineFits
+  fits room d h k = rw (le-leb d lastDay h, le-leb (lineLength d) room k)
 
-pub fitting : (room d : ℕ) → lineFits room d ≡ true → lineLength d ≤ room
-unfolding lineFits
-fitting room d e = leb-true _ _ (and-eq-true-iff (leb d lastDay) (leb (lineLength d) room) .0 e .1)
+  pub fitting : (room d : ℕ) → lineFits ed room d ≡ true → lineLength d ≤ room
+  unfolding lineFits
+  fitting room d e = leb-true _ _ (and-eq-true-iff (leb d lastDay) (leb (lineLength d) room) .0 e .1)
 
-pub no-day : (room d : ℕ) → lastDay < d → lineFits room d ≡ false
-unfolding lineFits
-no-day room d h = rw (lt-leb d lastDay h)
+  pub no-day : (room d : ℕ) → lastDay < d → lineFits ed room d ≡ false
+  unfolding lineFits
+  no-day room d h = rw (lt-leb d lastDay h)
 
-pub no-room : (room d : ℕ) → d ≤ lastDay → room < lineLength d → lineFits room d ≡ false
-unfolding lineFits
-no-room room d h k = rw (le-leb d lastDay h, lt-leb (lineLength d) room k)
+  pub no-room : (room d : ℕ) → d ≤ lastDay → room < lineLength d → lineFits ed room d ≡ false
+  unfolding lineFits
+  no-room room d h k = rw (le-leb d lastDay h, lt-leb (lineLength d) room k)
 
-pub printed-none : (room : ℕ) → printedDays room [] ≡ []
-unfolding printedDays
-printed-none room = refl
+  pub printed-none : (room : ℕ) → printedDays ed room [] ≡ []
+  unfolding printedDays
+  printed-none room = refl
 
-pub printed-more : (room d : ℕ) (ds : List ℕ) → lineFits room d ≡ true → printedDays room (d ∷ ds) ≡ d ∷ printedDays (room - lineLength d) ds
-unfolding printedDays
-printed-more room d ds e = rw (e, printedDays)
+  pub printed-more : (room d : ℕ) (ds : List ℕ) → lineFits ed room d ≡ true → printedDays ed room (d ∷ ds) ≡ d ∷ printedDays ed (room - lineLength d) ds
+  unfolding printedDays
+  printed-more room d ds e = rw (e, printedDays)
 
-pub printed-end : (room d : ℕ) (ds : List ℕ) → lineFits room d ≡ false → printedDays room (d ∷ ds) ≡ []
-unfolding printedDays
-printed-end room d ds e = rw (e, printedDays)
+  pub printed-end : (room d : ℕ) (ds : List ℕ) → lineFits ed room d ≡ false → printedDays ed room (d ∷ ds) ≡ []
+  unfolding printedDays
+  printed-end room d ds e = rw (e, printedDays)
 
--- pieceOf, case by case
-pub piece-none : (room k : ℕ) → pieceOf room k [] ≡ thePiece 0 k
-unfolding pieceOf
-piece-none room k = refl
+  -- pieceOf, case by case
+  pub piece-none : (room k : ℕ) → pieceOf ed room k [] ≡ thePiece 0 k
+  unfolding pieceOf
+  piece-none room k = refl
 
-pub piece-no-day : (room k d : ℕ) (ds : List ℕ) → lastDay < d → pieceOf room k (d ∷ ds) ≡ noPiece outOfRange 0
-unfolding pieceOf
-piece-no-day room k d ds h = rw (lt-leb d lastDay h)
+  pub piece-no-day : (room k d : ℕ) (ds : List ℕ) → lastDay < d → pieceOf ed room k (d ∷ ds) ≡ noPiece outOfRange 0
+  unfolding pieceOf
+  piece-no-day room k d ds h = rw (lt-leb d lastDay h)
 
-pub piece-no-room : (room k d : ℕ) (ds : List ℕ) → d ≤ lastDay → room < lineLength d → pieceOf room k (d ∷ ds) ≡ noPiece listTooShort (lineLength d)
-unfolding pieceOf
-piece-no-room room k d ds h n = rw (le-leb d lastDay h, lt-leb (lineLength d) room n)
+  pub piece-no-room : (room k d : ℕ) (ds : List ℕ) → d ≤ lastDay → room < lineLength d → pieceOf ed room k (d ∷ ds) ≡ noPiece listTooShort (lineLength d)
+  unfolding pieceOf
+  piece-no-room room k d ds h n = rw (le-leb d lastDay h, lt-leb (lineLength d) room n)
 
-pub piece-some : (room k d : ℕ) (ds : List ℕ) → lineFits room d ≡ true → pieceOf room k (d ∷ ds) ≡ putPiece k (printedDays room (d ∷ ds))
-unfolding lineFits pieceOf
-piece-some room k d ds e = let both = and-eq-true-iff (leb d lastDay) (leb (lineLength d) room) .0 e in rw (both .0, both .1)
+  pub piece-some : (room k d : ℕ) (ds : List ℕ) → lineFits ed room d ≡ true → pieceOf ed room k (d ∷ ds) ≡ putPiece ed k (printedDays ed room (d ∷ ds))
+  unfolding lineFits pieceOf
+  piece-some room k d ds e = let both = and-eq-true-iff (leb d lastDay) (leb (lineLength d) room) .0 e in rw (both .0, both .1)
 
--- where a day is printed there is no refusal
-pub piece-put : (room k : ℕ) (ds : List ℕ) → 0 < length (printedDays room ds) → pieceOf room k ds ≡ putPiece k (printedDays room ds)
-piece-put room k [] h = unfold printedDays pieceOf in absurd (omega arith)
-piece-put room k (d ∷ ds) h = go (lineFits room d) refl
-  where
-    go : (b : Bool) → lineFits room d ≡ b → pieceOf room k (d ∷ ds) ≡ putPiece k (printedDays room (d ∷ ds))
-    go true e = piece-some room k d ds e
-    go false e = absurd (omega (arith, ap length (printed-end room d ds e)))
+  -- where a day is printed there is no refusal
+  pub piece-put : (room k : ℕ) (ds : List ℕ) → 0 < length (printedDays ed room ds) → pieceOf ed room k ds ≡ putPiece ed k (printedDays ed room ds)
+  piece-put room k [] h = unfold printedDays pieceOf in absurd (omega arith)
+  piece-put room k (d ∷ ds) h = go (lineFits ed room d) refl
+    where
+      go : (b : Bool) → lineFits ed room d ≡ b → pieceOf ed room k (d ∷ ds) ≡ putPiece ed k (printedDays ed room (d ∷ ds))
+      go true e = piece-some room k d ds e
+      go false e = absurd (omega (arith, ap length (printed-end room d ds e)))
 
--- by a refusal the buffer is as it was
-pub refused-kept : (list : List ℕ) (k : ℕ) (before : List ℕ) → (linesPiece list k (length before) .refusal ≡ 0 → ⊥) → linesAfter list k before ≡ before
-unfolding dayLines
-refused-kept list k before refused = go (listedFrom list k) refused
-  where
-    none : (ds : List ℕ) → printedDays (length before) ds ≡ [] → withFront (dayLines (printedDays (length before) ds)) before ≡ before
-    none ds e = rw e
+  -- by a refusal the buffer is as it was
+  pub refused-kept : (list : List ℕ) (k : ℕ) (before : List ℕ) → (linesPiece ed list k (length before) .refusal ≡ 0 → ⊥) → linesAfter ed list k before ≡ before
+  unfolding dayLines
+  refused-kept list k before refused = go (listedFrom list k) refused
+    where
+      none : (ds : List ℕ) → printedDays ed (length before) ds ≡ [] → withFront (dayLines ed (printedDays ed (length before) ds)) before ≡ before
+      none ds e = rw e
 
-    go : (ds : List ℕ) → (pieceOf (length before) k ds .refusal ≡ 0 → ⊥) → withFront (dayLines (printedDays (length before) ds)) before ≡ before
-    go [] r = none [] (printed-none (length before))
-    go (d ∷ ds) r = fit (lineFits (length before) d) refl
-      where
-        fit : (b : Bool) → lineFits (length before) d ≡ b → withFront (dayLines (printedDays (length before) (d ∷ ds))) before ≡ before
-        fit true e = absurd (r (ap (λ (p : Piece). p .refusal) (piece-some (length before) k d ds e)))
-        fit false e = none (d ∷ ds) (printed-end (length before) d ds e)
+      go : (ds : List ℕ) → (pieceOf ed (length before) k ds .refusal ≡ 0 → ⊥) → withFront (dayLines ed (printedDays ed (length before) ds)) before ≡ before
+      go [] r = none [] (printed-none (length before))
+      go (d ∷ ds) r = fit (lineFits ed (length before) d) refl
+        where
+          fit : (b : Bool) → lineFits ed (length before) d ≡ b → withFront (dayLines ed (printedDays ed (length before) (d ∷ ds))) before ≡ before
+          fit true e = absurd (r (ap (λ (p : Piece). p .refusal) (piece-some (length before) k d ds e)))
+          fit false e = none (d ∷ ds) (printed-end (length before) d ds e)
 
--- the heading, put whole or refused
-module _ (found examined : ℕ) (before : List ℕ) where
-  pub record Headed (piece : Piece) (after : List ℕ) : Type 0 where
-    pub answer : headingPiece found examined (length before) ≡ piece
-    pub put : headingAfter found examined before ≡ after
+  -- the heading, put whole or refused
+  module _ (found examined : ℕ) (before : List ℕ) where
+    pub record Headed (piece : Piece) (after : List ℕ) : Type 0 where
+      pub answer : headingPiece ed found examined (length before) ≡ piece
+      pub put : headingAfter ed found examined before ≡ after
 
-  pub heading-put : length (catalogueHeading found examined) ≤ length before → Headed (thePiece (length (catalogueHeading found examined)) 0) (withFront (catalogueHeading found examined) before)
-  unfolding headingPiece headingAfter
-  heading-put h = let fits = le-leb (length (catalogueHeading found examined)) (length before) h in record { answer = rw fits; put = rw fits }
+    pub heading-put : length (catalogueHeading ed found examined) ≤ length before → Headed (thePiece (length (catalogueHeading ed found examined)) 0) (withFront (catalogueHeading ed found examined) before)
+    unfolding headingPiece headingAfter
+    heading-put h = let fits = le-leb (length (catalogueHeading ed found examined)) (length before) h in record { answer = rw fits; put = rw fits }
 
-  pub heading-refused : length before < length (catalogueHeading found examined) → Headed (noPiece listTooShort (length (catalogueHeading found examined))) before
-  unfolding headingPiece headingAfter
-  heading-refused h = let long = lt-leb (length (catalogueHeading found examined)) (length before) h in record { answer = rw long; put = rw long }
+    pub heading-refused : length before < length (catalogueHeading ed found examined) → Headed (noPiece listTooShort (length (catalogueHeading ed found examined))) before
+    unfolding headingPiece headingAfter
+    heading-refused h = let long = lt-leb (length (catalogueHeading ed found examined)) (length before) h in record { answer = rw long; put = rw long }
+
+  -- what a call hands back and leaves, where the number is an edition's
+  module _ (t : isEdition ed ≡ true) where
+    pub piece-given : (piece : Piece) → ofEdition ed piece ≡ piece
+    piece-given piece = rw t
+
+    pub buffer-given : (before after : List ℕ) → leftInEdition ed before after ≡ after
+    buffer-given before after = rw t

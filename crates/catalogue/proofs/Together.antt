@@ -13,6 +13,7 @@ use Rattle.days.specs.Days.{lastDay}
 use Rattle.days.specs.declared.NumberAnswer.{NumberAnswer}
 use Rattle.entries.specs.Entries.{entries, capacity, withEntries, entryAt}
 use Rattle.entries.proofs.Laws.{entries-length, entries-read}
+use Rattle.panchanga.specs.TrueLongitudes.{isEdition}
 use Rattle.text.specs.Lines.{lineCapacity}
 use Rattle.catalogue.specs.declared.Piece.{Piece}
 use Rattle.catalogue.specs.Catalogue.{dayLine}
@@ -21,194 +22,195 @@ use Rattle.catalogue.specs.Each.{EachDay, EachFits}
 use Rattle.catalogue.proofs.DayLines.{line-fits, line-some}
 use Rattle.catalogue.proofs.Pieces.{no-lines, fits, fitting, printed-none, printed-more, printed-end, piece-none, piece-some}
 
-pub lines-append : (xs ys : List ℕ) → dayLines (xs ++ ys) ≡ dayLines xs ++ dayLines ys
-unfolding dayLines
-lines-append [] ys = refl
-lines-append (x ∷ xs) ys = ap (λ (l : List ℕ). dayLine x ++ l) (lines-append xs ys) ∙ sym (append-assoc (dayLine x) (dayLines xs) (dayLines ys))
+module _ (ed : ℕ) where
+  pub lines-append : (xs ys : List ℕ) → dayLines ed (xs ++ ys) ≡ dayLines ed xs ++ dayLines ed ys
+  unfolding dayLines
+  lines-append [] ys = refl
+  lines-append (x ∷ xs) ys = ap (λ (l : List ℕ). dayLine ed x ++ l) (lines-append xs ys) ∙ sym (append-assoc (dayLine ed x) (dayLines ed xs) (dayLines ed ys))
 
--- a buffer as long as a line takes the line of any day
-pub each-fits : (room : ℕ) (ds : List ℕ) → lineCapacity ≤ room → EachDay ds → EachFits room ds
-unfolding EachFits EachDay
-each-fits room [] h all = tt
-each-fits room (d ∷ ds) h all = (fits room d (all .0) (omega (arith, line-fits d (all .0))), each-fits room ds h (all .1))
+  -- a buffer as long as a line takes the line of any day
+  pub each-fits : isEdition ed ≡ true → (room : ℕ) (ds : List ℕ) → lineCapacity ≤ room → EachDay ds → EachFits ed room ds
+  unfolding EachFits EachDay
+  each-fits t room [] h all = tt
+  each-fits t room (d ∷ ds) h all = (fits ed room d (all .0) (omega (arith, line-fits ed d t (all .0))), each-fits t room ds h (all .1))
 
--- of the n days from entry k on, the first are those of ds
-abbrev First : List ℕ → ℕ → ℕ → List ℕ → Type 0
-First list k n ds = entryDays list k n ≡ ds ++ entryDays list (k + length ds) (n - length ds)
+  -- of the n days from entry k on, the first are those of ds
+  abbrev First : List ℕ → ℕ → ℕ → List ℕ → Type 0
+  First list k n ds = entryDays list k n ≡ ds ++ entryDays list (k + length ds) (n - length ds)
 
-first-none : (list : List ℕ) (k n : ℕ) → First list k n []
-first-none list k n = ap₂ (entryDays list) (omega arith) (omega arith)
+  first-none : (list : List ℕ) (k n : ℕ) → First list k n []
+  first-none list k n = ap₂ (entryDays list) (omega arith) (omega arith)
 
-first-more : (list : List ℕ) (k n : ℕ) (ds : List ℕ) → First list (suc k) n ds → First list k (suc n) (entryAt list k .number ∷ ds)
-unfolding entryDays
-first-more list k n ds h =
-    let next : suc k + length ds ≡ k + suc (length ds) = omega arith in
-    let left : n - length ds ≡ suc n - suc (length ds) = omega arith in
-    ap (λ (l : List ℕ). entryAt list k .number ∷ l) (h ∙ ap₂ (λ (i m : ℕ). ds ++ entryDays list i m) next left)
+  first-more : (list : List ℕ) (k n : ℕ) (ds : List ℕ) → First list (suc k) n ds → First list k (suc n) (entryAt list k .number ∷ ds)
+  unfolding entryDays
+  first-more list k n ds h =
+      let next : suc k + length ds ≡ k + suc (length ds) = omega arith in
+      let left : n - length ds ≡ suc n - suc (length ds) = omega arith in
+      ap (λ (l : List ℕ). entryAt list k .number ∷ l) (h ∙ ap₂ (λ (i m : ℕ). ds ++ entryDays list i m) next left)
 
-no-days : (list : List ℕ) (k : ℕ) → entryDays list k 0 ≡ []
-unfolding entryDays
-no-days list k = refl
+  no-days : (list : List ℕ) (k : ℕ) → entryDays list k 0 ≡ []
+  unfolding entryDays
+  no-days list k = refl
 
-more-days : (list : List ℕ) (k n : ℕ) → entryDays list k (suc n) ≡ entryAt list k .number ∷ entryDays list (suc k) n
-unfolding entryDays
-more-days list k n = refl
+  more-days : (list : List ℕ) (k n : ℕ) → entryDays list k (suc n) ≡ entryAt list k .number ∷ entryDays list (suc k) n
+  unfolding entryDays
+  more-days list k n = refl
 
--- the days printed are the first of those due
-printed-first : (room : ℕ) (list : List ℕ) (k n : ℕ) → First list k n (printedDays room (entryDays list k n))
-printed-first room list k zero = subst (First list k zero) (sym (ap (printedDays room) (no-days list k) ∙ printed-none room)) (first-none list k zero)
-printed-first room list k (suc n) = go (lineFits room d) refl (printed-first (room - length (dayLine d)) list (suc k) n)
-  where
-    d : ℕ
-    d = entryAt list k .number
+  -- the days printed are the first of those due
+  printed-first : (room : ℕ) (list : List ℕ) (k n : ℕ) → First list k n (printedDays ed room (entryDays list k n))
+  printed-first room list k zero = subst (First list k zero) (sym (ap (printedDays ed room) (no-days list k) ∙ printed-none ed room)) (first-none list k zero)
+  printed-first room list k (suc n) = go (lineFits ed room d) refl (printed-first (room - length (dayLine ed d)) list (suc k) n)
+    where
+      d : ℕ
+      d = entryAt list k .number
 
-    go :
-        (b : Bool) →
-        lineFits room d ≡ b →
-        First list (suc k) n (printedDays (room - length (dayLine d)) (entryDays list (suc k) n)) →
-        First list k (suc n) (printedDays room (entryDays list k (suc n)))
-    go true e h =
-        subst (First list k (suc n)) (sym (ap (printedDays room) (more-days list k n) ∙ printed-more room d (entryDays list (suc k) n) e)) (first-more list k n (printedDays (room - length (dayLine d)) (entryDays list (suc k) n)) h)
-    go false e h =
-        subst (First list k (suc n)) (sym (ap (printedDays room) (more-days list k n) ∙ printed-end room d (entryDays list (suc k) n) e)) (first-none list k (suc n))
+      go :
+          (b : Bool) →
+          lineFits ed room d ≡ b →
+          First list (suc k) n (printedDays ed (room - length (dayLine ed d)) (entryDays list (suc k) n)) →
+          First list k (suc n) (printedDays ed room (entryDays list k (suc n)))
+      go true e h =
+          subst (First list k (suc n)) (sym (ap (printedDays ed room) (more-days list k n) ∙ printed-more ed room d (entryDays list (suc k) n) e)) (first-more list k n (printedDays ed (room - length (dayLine ed d)) (entryDays list (suc k) n)) h)
+      go false e h =
+          subst (First list k (suc n)) (sym (ap (printedDays ed room) (more-days list k n) ∙ printed-end ed room d (entryDays list (suc k) n) e)) (first-none list k (suc n))
 
--- their lines are within the room
-printed-within : (room : ℕ) (ds : List ℕ) → length (dayLines (printedDays room ds)) ≤ room
-printed-within room [] = rw (printed-none room) (unfold dayLines in omega arith)
-printed-within room (d ∷ ds) = go (lineFits room d) refl (printed-within (room - length (dayLine d)) ds)
-  where
-    go :
-        (b : Bool) →
-        lineFits room d ≡ b →
-        length (dayLines (printedDays (room - length (dayLine d)) ds)) ≤ room - length (dayLine d) →
-        length (dayLines (printedDays room (d ∷ ds))) ≤ room
-    go true e h = rw (printed-more room d ds e) (unfold dayLines in simp length-append (omega (arith, fitting room d e)))
-    go false e h = rw (printed-end room d ds e) (unfold dayLines in omega arith)
+  -- their lines are within the room
+  printed-within : (room : ℕ) (ds : List ℕ) → length (dayLines ed (printedDays ed room ds)) ≤ room
+  printed-within room [] = rw (printed-none ed room) (unfold dayLines in omega arith)
+  printed-within room (d ∷ ds) = go (lineFits ed room d) refl (printed-within (room - length (dayLine ed d)) ds)
+    where
+      go :
+          (b : Bool) →
+          lineFits ed room d ≡ b →
+          length (dayLines ed (printedDays ed (room - length (dayLine ed d)) ds)) ≤ room - length (dayLine ed d) →
+          length (dayLines ed (printedDays ed room (d ∷ ds))) ≤ room
+      go true e h = rw (printed-more ed room d ds e) (unfold dayLines in simp length-append (omega (arith, fitting ed room d e)))
+      go false e h = rw (printed-end ed room d ds e) (unfold dayLines in omega arith)
 
--- where each line fits there is no refusal
-piece-each : (room k : ℕ) (ds : List ℕ) → EachFits room ds → pieceOf room k ds ≡ putPiece k (printedDays room ds)
-unfolding EachFits
-piece-each room k [] each = piece-none room k ∙ ap₂ thePiece (unfold dayLines printedDays in refl) (unfold printedDays in omega arith)
-piece-each room k (d ∷ ds) each = piece-some room k d ds (each .0)
+  -- where each line fits there is no refusal
+  piece-each : (room k : ℕ) (ds : List ℕ) → EachFits ed room ds → pieceOf ed room k ds ≡ putPiece ed k (printedDays ed room ds)
+  unfolding EachFits
+  piece-each room k [] each = piece-none ed room k ∙ ap₂ thePiece (unfold dayLines printedDays in refl) (unfold printedDays in omega arith)
+  piece-each room k (d ∷ ds) each = piece-some ed room k d ds (each .0)
 
-rest-fits : (room : ℕ) (xs ys : List ℕ) → EachFits room (xs ++ ys) → EachFits room ys
-unfolding EachFits
-rest-fits room [] ys each = each
-rest-fits room (x ∷ xs) ys each = rest-fits room xs ys (each .1)
+  rest-fits : (room : ℕ) (xs ys : List ℕ) → EachFits ed room (xs ++ ys) → EachFits ed room ys
+  unfolding EachFits
+  rest-fits room [] ys each = each
+  rest-fits room (x ∷ xs) ys each = rest-fits room xs ys (each .1)
 
-no-bytes : (ds : List ℕ) → length (dayLines ds) ≡ 0 → ds ≡ []
-unfolding dayLines
-no-bytes [] h = refl
-no-bytes (d ∷ ds) h = absurd (omega (arith, line-some d, simp length-append at h))
+  no-bytes : (ds : List ℕ) → length (dayLines ed ds) ≡ 0 → ds ≡ []
+  unfolding dayLines
+  no-bytes [] h = refl
+  no-bytes (d ∷ ds) h = absurd (omega (arith, line-some ed d, simp length-append at h))
 
-all-printed : (room : ℕ) (ds : List ℕ) → EachFits room ds → printedDays room ds ≡ [] → ds ≡ []
-unfolding EachFits
-all-printed room [] each none = refl
-all-printed room (d ∷ ds) each none = absurd (omega (arith, ap length (sym (printed-more room d ds (each .0)) ∙ none)))
+  all-printed : (room : ℕ) (ds : List ℕ) → EachFits ed room ds → printedDays ed room ds ≡ [] → ds ≡ []
+  unfolding EachFits
+  all-printed room [] each none = refl
+  all-printed room (d ∷ ds) each none = absurd (omega (arith, ap length (sym (printed-more ed room d ds (each .0)) ∙ none)))
 
--- what a call tells and leaves behind, where each line due fits the buffer
-pub record Going (list : List ℕ) (k : ℕ) (before : List ℕ) (piece : Piece) (after : List ℕ) : Type 0 where
-  pub good : piece .refusal ≡ 0
-  pub within : piece .bytes ≤ length before
-  -- the bytes put are the front of the lines due, and those from the entry handed back on are the rest
-  pub lines : dayLines (listedFrom list k) ≡ take (piece .bytes) after ++ dayLines (listedFrom list (piece .next))
-  pub front : length (take (piece .bytes) after) ≡ piece .bytes
-  pub fits-on : (room : ℕ) → EachFits room (listedFrom list k) → EachFits room (listedFrom list (piece .next))
-  -- nothing is put only where nothing is due, and else the next entry is a later one
-  pub done : piece .bytes ≡ 0 → listedFrom list k ≡ []
-  pub on : (piece .bytes ≡ 0 → ⊥) → k < piece .next
-  pub forward : k ≤ piece .next
+  -- what a call tells and leaves behind, where each line due fits the buffer
+  pub record Going (list : List ℕ) (k : ℕ) (before : List ℕ) (piece : Piece) (after : List ℕ) : Type 0 where
+    pub good : piece .refusal ≡ 0
+    pub within : piece .bytes ≤ length before
+    -- the bytes put are the front of the lines due, and those from the entry handed back on are the rest
+    pub lines : dayLines ed (listedFrom list k) ≡ take (piece .bytes) after ++ dayLines ed (listedFrom list (piece .next))
+    pub front : length (take (piece .bytes) after) ≡ piece .bytes
+    pub fits-on : (room : ℕ) → EachFits ed room (listedFrom list k) → EachFits ed room (listedFrom list (piece .next))
+    -- nothing is put only where nothing is due, and else the next entry is a later one
+    pub done : piece .bytes ≡ 0 → listedFrom list k ≡ []
+    pub on : (piece .bytes ≡ 0 → ⊥) → k < piece .next
+    pub forward : k ≤ piece .next
 
-pub going : (list : List ℕ) (k : ℕ) (before : List ℕ) → EachFits (length before) (listedFrom list k) → Going list k before (linesPiece list k (length before)) (linesAfter list k before)
-going list k before each =
-    rw answered
-    (record {
-      good = refl;
-      within = printed-within (length before) (listedFrom list k);
-      lines = ap dayLines first ∙ lines-append printed (listedFrom list (k + length printed)) ∙ ap (λ (l : List ℕ). l ++ dayLines (listedFrom list (k + length printed))) (sym taken);
-      front = ap length taken;
-      fits-on = λ room each. rest-fits room printed (listedFrom list (k + length printed)) (subst (EachFits room) first each);
-      done = λ none. all-printed (length before) (listedFrom list k) each (no-bytes printed none);
-      on = λ some. later (decLe 1 (length printed)) some;
-      forward = omega arith;
-    })
-  where
-    printed : List ℕ
-    printed = printedDays (length before) (listedFrom list k)
+  pub going : (list : List ℕ) (k : ℕ) (before : List ℕ) → EachFits ed (length before) (listedFrom list k) → Going list k before (linesPiece ed list k (length before)) (linesAfter ed list k before)
+  going list k before each =
+      rw answered
+      (record {
+        good = refl;
+        within = printed-within (length before) (listedFrom list k);
+        lines = ap (dayLines ed) first ∙ lines-append printed (listedFrom list (k + length printed)) ∙ ap (λ (l : List ℕ). l ++ dayLines ed (listedFrom list (k + length printed))) (sym taken);
+        front = ap length taken;
+        fits-on = λ room each. rest-fits room printed (listedFrom list (k + length printed)) (subst (EachFits ed room) first each);
+        done = λ none. all-printed (length before) (listedFrom list k) each (no-bytes printed none);
+        on = λ some. later (decLe 1 (length printed)) some;
+        forward = omega arith;
+      })
+    where
+      printed : List ℕ
+      printed = printedDays ed (length before) (listedFrom list k)
 
-    answered : linesPiece list k (length before) ≡ putPiece k printed
-    answered = piece-each (length before) k (listedFrom list k) each
+      answered : linesPiece ed list k (length before) ≡ putPiece ed k printed
+      answered = piece-each (length before) k (listedFrom list k) each
 
-    first : listedFrom list k ≡ printed ++ listedFrom list (k + length printed)
-    first =
-        printed-first (length before) list k (capacity list - k)
-        ∙ ap (λ (n : ℕ). printed ++ entryDays list (k + length printed) n) (omega arith)
+      first : listedFrom list k ≡ printed ++ listedFrom list (k + length printed)
+      first =
+          printed-first (length before) list k (capacity list - k)
+          ∙ ap (λ (n : ℕ). printed ++ entryDays list (k + length printed) n) (omega arith)
 
-    taken : take (length (dayLines printed)) (linesAfter list k before) ≡ dayLines printed
-    taken = take-append-seam (dayLines printed) (drop (length (dayLines printed)) before)
+      taken : take (length (dayLines ed printed)) (linesAfter ed list k before) ≡ dayLines ed printed
+      taken = take-append-seam (dayLines ed printed) (drop (length (dayLines ed printed)) before)
 
-    later : Dec (1 ≤ length printed) → (length (dayLines printed) ≡ 0 → ⊥) → k < k + length printed
-    later (yes h) some = omega arith
-    later (no h) some = absurd (some (no-lines printed (omega arith)))
+      later : Dec (1 ≤ length printed) → (length (dayLines ed printed) ≡ 0 → ⊥) → k < k + length printed
+      later (yes h) some = omega arith
+      later (no h) some = absurd (some (no-lines ed printed (omega arith)))
 
-days-length : (list : List ℕ) (k n : ℕ) → length (entryDays list k n) ≡ n
-days-length list k zero = ap length (no-days list k)
-days-length list k (suc n) = ap length (more-days list k n) ∙ ap suc (days-length list (suc k) n)
+  days-length : (list : List ℕ) (k n : ℕ) → length (entryDays list k n) ≡ n
+  days-length list k zero = ap length (no-days list k)
+  days-length list k (suc n) = ap length (more-days list k n) ∙ ap suc (days-length list (suc k) n)
 
--- the bytes that n calls put one after another, the first from entry k on and each other from the entry that the one before it handed back;
--- `buffers i` is the buffer of the call behind which i are left
-pub piecesFrom : List ℕ → (ℕ → List ℕ) → ℕ → ℕ → List ℕ
-piecesFrom list buffers zero k = []
-piecesFrom list buffers (suc n) k =
-    take (linesPiece list k (length (buffers n)) .bytes) (linesAfter list k (buffers n))
-    ++ piecesFrom list buffers n (linesPiece list k (length (buffers n)) .next)
+  -- the bytes that n calls put one after another, the first from entry k on and each other from the entry that the one before it handed back;
+  -- `buffers i` is the buffer of the call behind which i are left
+  pub piecesFrom : List ℕ → (ℕ → List ℕ) → ℕ → ℕ → List ℕ
+  piecesFrom list buffers zero k = []
+  piecesFrom list buffers (suc n) k =
+      take (linesPiece ed list k (length (buffers n)) .bytes) (linesAfter ed list k (buffers n))
+      ++ piecesFrom list buffers n (linesPiece ed list k (length (buffers n)) .next)
 
-pub pieces-together :
-    (list : List ℕ) (buffers : ℕ → List ℕ) (n k : ℕ) →
-    ((i : ℕ) → EachFits (length (buffers i)) (listedFrom list k)) →
-    capacity list - k ≤ n →
-    piecesFrom list buffers n k ≡ dayLines (listedFrom list k)
-unfolding piecesFrom dayLines
-pieces-together list buffers zero k each enough =
-    let none : capacity list - k ≡ 0 = omega arith in
-    sym (ap (λ (m : ℕ). dayLines (entryDays list k m)) none ∙ ap dayLines (no-days list k))
-pieces-together list buffers (suc n) k each enough =
-    ap (λ (l : List ℕ). take (piece .bytes) (linesAfter list k (buffers n)) ++ l)
-    (pieces-together list buffers n (piece .next) (λ i. g .fits-on (length (buffers i)) (each i)) (fewer (decLe 1 (piece .bytes))))
-    ∙ sym (g .lines)
-  where
-    piece : Piece
-    piece = linesPiece list k (length (buffers n))
+  pub pieces-together :
+      (list : List ℕ) (buffers : ℕ → List ℕ) (n k : ℕ) →
+      ((i : ℕ) → EachFits ed (length (buffers i)) (listedFrom list k)) →
+      capacity list - k ≤ n →
+      piecesFrom list buffers n k ≡ dayLines ed (listedFrom list k)
+  unfolding piecesFrom dayLines
+  pieces-together list buffers zero k each enough =
+      let none : capacity list - k ≡ 0 = omega arith in
+      sym (ap (λ (m : ℕ). dayLines ed (entryDays list k m)) none ∙ ap (dayLines ed) (no-days list k))
+  pieces-together list buffers (suc n) k each enough =
+      ap (λ (l : List ℕ). take (piece .bytes) (linesAfter ed list k (buffers n)) ++ l)
+      (pieces-together list buffers n (piece .next) (λ i. g .fits-on (length (buffers i)) (each i)) (fewer (decLe 1 (piece .bytes))))
+      ∙ sym (g .lines)
+    where
+      piece : Piece
+      piece = linesPiece ed list k (length (buffers n))
 
-    g : Going list k (buffers n) piece (linesAfter list k (buffers n))
-    g = going list k (buffers n) (each n)
+      g : Going list k (buffers n) piece (linesAfter ed list k (buffers n))
+      g = going list k (buffers n) (each n)
 
-    fewer : Dec (1 ≤ piece .bytes) → capacity list - piece .next ≤ n
-    fewer (yes h) = omega (arith, g .on (λ z. omega arith))
-    fewer (no h) = omega (arith, g .forward, sym (days-length list k (capacity list - k)) ∙ ap length (g .done (omega arith)))
+      fewer : Dec (1 ≤ piece .bytes) → capacity list - piece .next ≤ n
+      fewer (yes h) = omega (arith, g .on (λ z. omega arith))
+      fewer (no h) = omega (arith, g .forward, sym (days-length list k (capacity list - k)) ∙ ap length (g .done (omega arith)))
 
--- a list of days' entries and nothing else has these days
-each-at : (ds : List ℕ) (k : ℕ) → EachDay ds → k < length ds → getD ds k 0 ≤ lastDay
-unfolding EachDay
-each-at [] k all h = absurd (omega arith)
-each-at (d ∷ ds) zero all h = all .0
-each-at (d ∷ ds) (suc k) all h = each-at ds k (all .1) (omega arith)
+  -- a list of days' entries and nothing else has these days
+  each-at : (ds : List ℕ) (k : ℕ) → EachDay ds → k < length ds → getD ds k 0 ≤ lastDay
+  unfolding EachDay
+  each-at [] k all h = absurd (omega arith)
+  each-at (d ∷ ds) zero all h = all .0
+  each-at (d ∷ ds) (suc k) all h = each-at ds k (all .1) (omega arith)
 
-module _ (ds : List ℕ) (all : EachDay ds) where
-  entry-is : (k : ℕ) → k < length ds → entryAt (entries ds) k .number ≡ getD ds k 0
-  entry-is k h =
-      let whole : withEntries ds (entries ds) ≡ entries ds =
-      ap (λ (l : List ℕ). entries ds ++ l) (ap (λ (n : ℕ). drop n (entries ds)) (sym (entries-length ds)) ∙ drop-length (entries ds)) ∙ append-nil (entries ds) in
-      ap (λ (a : NumberAnswer). a .number)
-      (ap (λ (l : List ℕ). entryAt l k) (sym whole)
-      ∙ entries-read ds (entries ds) k (omega (arith, entries-length ds)) h (omega (arith, each-at ds k all h)))
+  module _ (ds : List ℕ) (all : EachDay ds) where
+    entry-is : (k : ℕ) → k < length ds → entryAt (entries ds) k .number ≡ getD ds k 0
+    entry-is k h =
+        let whole : withEntries ds (entries ds) ≡ entries ds =
+        ap (λ (l : List ℕ). entries ds ++ l) (ap (λ (n : ℕ). drop n (entries ds)) (sym (entries-length ds)) ∙ drop-length (entries ds)) ∙ append-nil (entries ds) in
+        ap (λ (a : NumberAnswer). a .number)
+        (ap (λ (l : List ℕ). entryAt l k) (sym whole)
+        ∙ entries-read ds (entries ds) k (omega (arith, entries-length ds)) h (omega (arith, each-at ds k all h)))
 
-  days-are : (n k : ℕ) → k + n ≡ length ds → entryDays (entries ds) k n ≡ drop k ds
-  days-are zero k e = no-days (entries ds) k ∙ sym (drop-of-length-le ds {i = k} (omega arith))
-  days-are (suc n) k e =
-      more-days (entries ds) k n
-      ∙ ap₂ (λ (d : ℕ) (l : List ℕ). d ∷ l) (entry-is k (omega arith)) (days-are n (suc k) (omega arith))
-      ∙ sym (drop-cons ds k 0 (omega arith))
+    days-are : (n k : ℕ) → k + n ≡ length ds → entryDays (entries ds) k n ≡ drop k ds
+    days-are zero k e = no-days (entries ds) k ∙ sym (drop-of-length-le ds {i = k} (omega arith))
+    days-are (suc n) k e =
+        more-days (entries ds) k n
+        ∙ ap₂ (λ (d : ℕ) (l : List ℕ). d ∷ l) (entry-is k (omega arith)) (days-are n (suc k) (omega arith))
+        ∙ sym (drop-cons ds k 0 (omega arith))
 
-  pub listed-entries : listedFrom (entries ds) 0 ≡ ds
-  listed-entries = days-are (capacity (entries ds) - 0) 0 (omega (arith, entries-length ds))
+    pub listed-entries : listedFrom (entries ds) 0 ≡ ds
+    listed-entries = days-are (capacity (entries ds) - 0) 0 (omega (arith, entries-length ds))

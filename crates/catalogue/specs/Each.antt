@@ -13,6 +13,6 @@ EachDay [] = Unit {0}
 EachDay (d ∷ ds) = (d ≤ lastDay) × EachDay ds
 
 -- each number is a day whose line fits whole into so many bytes
-unfoldable pub EachFits : ℕ → List ℕ → Type 0
-EachFits room [] = Unit {0}
-EachFits room (d ∷ ds) = (lineFits room d ≡ true) × EachFits room ds
+unfoldable pub EachFits : ℕ → ℕ → List ℕ → Type 0
+EachFits ed room [] = Unit {0}
+EachFits ed room (d ∷ ds) = (lineFits ed room d ≡ true) × EachFits ed room ds

@@ -3,28 +3,42 @@ use civil::Date;
 use days::Day;
 use days::refusal;
 use panchanga::Panchanga;
+use panchanga::SECOND_EDITION;
 use text::Line;
 ghost use mathlib.Core.Path.{_≡_};
-ghost use mathlib.Core.Bool.{cond};
+ghost use mathlib.Core.Bool.{true, cond};
 ghost use Prim.Native.Nat.{_+_, _≤_};
 ghost use lib.Dec.{ltb};
 ghost use lib.ListN.{length};
 ghost use lib.Seq.{paste};
 ghost use Rattle.days.specs.Days.{lastDay};
+ghost use Rattle.panchanga.specs.TrueLongitudes.{isEdition};
 ghost use Rattle.text.specs.Lines.{lineCapacity, withBytes, Holds};
-ghost use Rattle.catalogue.specs.Catalogue.{catalogueHeading, dateBytes, elementBytes, dayLine};
-ghost use Rattle.catalogue.specs.Pieces.{thePiece, noPiece, linesPiece, linesAfter, headingPiece, headingAfter};
+ghost use Rattle.catalogue.specs.Catalogue.{editionText, catalogueHeading, dateBytes, elementBytes, dayLine};
+ghost use Rattle.catalogue.specs.Pieces.{thePiece, noPiece, linesPiece, linesAfter, headingPiece, headingAfter, ofEdition, leftInEdition};
 
 // How many days were found and how many looked at, and the heading.
-fn heading_line(length: u32, examined: u32) -> Line
-    ensures { λ r. ⌜ Holds r (catalogueHeading length examined) ⌝ }
+fn heading_line(edition: u32, length: u32, examined: u32) -> Line
+    ensures { λ r. ⌜ Holds r (catalogueHeading edition length examined) ⌝ }
 {
     let counts = Line::empty()
         .text(b"found ")
         .number(length)
         .text(b" looked ")
         .number(examined);
-    counts.text(b"\nday date weekday tithi nakshatra yoga karana\n")
+    let named = with_edition(counts, edition);
+    named.text(b"\nday date weekday tithi nakshatra yoga karana\n")
+}
+
+// The second edition is named behind the first line.
+fn with_edition(line: Line, edition: u32) -> Line
+    ensures { λ r. ⌜ r ≡ withBytes line (editionText edition) ⌝ }
+{
+    if edition == SECOND_EDITION {
+        line.text(b" edition 2")
+    } else {
+        line.text(b"")
+    }
 }
 
 fn put_date(line: Line, date: Date) -> Line
@@ -50,13 +64,13 @@ fn put_elements(line: Line, elements: Panchanga) -> Line
         .number(elements.karana)
 }
 
-fn day_line(day: u32) -> Line
-    requires { ⌜ day ≤ lastDay ⌝ }
-    ensures { λ r. ⌜ Holds r (dayLine day) ⌝ }
+fn day_line(edition: u32, day: u32) -> Line
+    requires { ⌜ (day ≤ lastDay) × (isEdition edition ≡ true) ⌝ }
+    ensures { λ r. ⌜ Holds r (dayLine edition day) ⌝ }
 {
     let answer = Day::from_number(day);
     let found = civil::date_of(day);
-    let elements = panchanga::of_day(answer.day);
+    let elements = panchanga::of_day(edition, answer.day);
     let weekday = answer.day.weekday();
     let names = words::WEEKDAYS;
     let name = words::name_at(&names, weekday.number as usize);
@@ -106,12 +120,22 @@ fn put(buffer: &mut [u8], at: usize, line: Line)
     }
 }
 
-// The heading, or nothing where it does not fit.
-pub fn heading(length: u32, examined: u32, buffer: &mut [u8]) -> Piece
-    ensures { λ r. ⌜ r ≡ headingPiece length examined (lib.ListN.length (now (buffer .entry))) ⌝ }
-    ensures { λ _. ⌜ now (buffer .exit) ≡ headingAfter length examined (now (buffer .entry)) ⌝ }
+// The heading of an edition's catalogue, or nothing where it does not fit.
+pub fn heading(edition: u32, length: u32, examined: u32, buffer: &mut [u8]) -> Piece
+    ensures { λ r. ⌜ r ≡ ofEdition edition (headingPiece edition length examined (lib.ListN.length (now (buffer .entry)))) ⌝ }
+    ensures { λ _. ⌜ now (buffer .exit) ≡ leftInEdition edition (now (buffer .entry)) (headingAfter edition length examined (now (buffer .entry))) ⌝ }
 {
-    let line = heading_line(length, examined);
+    if !panchanga::is_edition(edition) {
+        return refused(refusal::BAD_EDITION, 0);
+    }
+    put_heading(edition, length, examined, buffer)
+}
+
+fn put_heading(edition: u32, length: u32, examined: u32, buffer: &mut [u8]) -> Piece
+    ensures { λ r. ⌜ r ≡ headingPiece edition length examined (lib.ListN.length (now (buffer .entry))) ⌝ }
+    ensures { λ _. ⌜ now (buffer .exit) ≡ headingAfter edition length examined (now (buffer .entry)) ⌝ }
+{
+    let line = heading_line(edition, length, examined);
     let len = line.len;
     if buffer.len() < len {
         return refused(refusal::LIST_TOO_SHORT, len);
@@ -127,10 +151,21 @@ fn unless_empty(piece: Piece, from: usize, refused: Piece) -> Piece
     if from < piece.next { piece } else { refused }
 }
 
-// The lines of a list's days from an entry on, as many as fit whole, at the front of the buffer.
-pub fn lines(list: &[u8], from: usize, buffer: &mut [u8]) -> Piece
-    ensures { λ r. ⌜ r ≡ linesPiece (now (list .entry)) from (length (now (buffer .entry))) ⌝ }
-    ensures { λ _. ⌜ now (buffer .exit) ≡ linesAfter (now (list .entry)) from (now (buffer .entry)) ⌝ }
+// The lines of a list's days from an entry on, with an edition's elements, as many as fit whole, at the front of the buffer.
+pub fn lines(edition: u32, list: &[u8], from: usize, buffer: &mut [u8]) -> Piece
+    ensures { λ r. ⌜ r ≡ ofEdition edition (linesPiece edition (now (list .entry)) from (length (now (buffer .entry)))) ⌝ }
+    ensures { λ _. ⌜ now (buffer .exit) ≡ leftInEdition edition (now (buffer .entry)) (linesAfter edition (now (list .entry)) from (now (buffer .entry))) ⌝ }
+{
+    if !panchanga::is_edition(edition) {
+        return refused(refusal::BAD_EDITION, 0);
+    }
+    put_lines(edition, list, from, buffer)
+}
+
+fn put_lines(edition: u32, list: &[u8], from: usize, buffer: &mut [u8]) -> Piece
+    requires { ⌜ isEdition edition ≡ true ⌝ }
+    ensures { λ r. ⌜ r ≡ linesPiece edition (now (list .entry)) from (length (now (buffer .entry))) ⌝ }
+    ensures { λ _. ⌜ now (buffer .exit) ≡ linesAfter edition (now (list .entry)) from (now (buffer .entry)) ⌝ }
 {
     let mut piece = accepted(0, from);
     loop {
@@ -141,7 +176,7 @@ pub fn lines(list: &[u8], from: usize, buffer: &mut [u8]) -> Piece
         if Day::LAST < due.number {
             return unless_empty(piece, from, refused(refusal::OUT_OF_RANGE, 0));
         }
-        let line = day_line(due.number);
+        let line = day_line(edition, due.number);
         let len = line.len;
         if buffer.len() - piece.bytes < len {
             return unless_empty(piece, from, refused(refusal::LIST_TOO_SHORT, len));

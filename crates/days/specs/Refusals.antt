@@ -29,3 +29,7 @@ listTooShort = 7
 -- of a Saka date: an extra month is still to come, and the reckoning has none
 abbrev pub noExtraMonth : ℕ
 noExtraMonth = 8
+
+-- an edition other than 1 or 2
+abbrev pub badEdition : ℕ
+badEdition = 14

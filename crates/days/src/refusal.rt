@@ -16,3 +16,5 @@ pub const BAD_CONDITION: u32 = 6;
 pub const LIST_TOO_SHORT: u32 = 7;
 
 pub const NO_EXTRA_MONTH: u32 = 8;
+
+pub const BAD_EDITION: u32 = 14;

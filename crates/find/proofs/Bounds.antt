@@ -8,6 +8,7 @@ use native.Mathlib.Omega.{arith}
 use lib.Dec.{leb}
 use lib.ListN.{length, length-append}
 use Rattle.days.specs.Days.{lastDay}
+use Rattle.panchanga.specs.TrueLongitudes.{isEdition}
 use Rattle.query.specs.declared.Query.{Query}
 use Rattle.query.specs.Query.{conditionsMet, refusalOf}
 use Rattle.query.proofs.Accepted.{accepted-by}
@@ -47,19 +48,19 @@ visited-short q (suc n) d = go (leb d (q .last)) (visited-short q n (nextDay q d
     go true h = omega arith
     go false h = omega arith
 
-lines-short : (ds : List ℕ) → EachDay ds → length (dayLines ds) ≤ 128 * length ds
+lines-short : (ed : ℕ) → isEdition ed ≡ true → (ds : List ℕ) → EachDay ds → length (dayLines ed ds) ≤ 128 * length ds
 unfolding EachDay dayLines
-lines-short [] each = omega arith
-lines-short (d ∷ ds) each = simp length-append (omega (arith, line-fits d (each .0), lines-short ds (each .1)))
+lines-short ed t [] each = omega arith
+lines-short ed t (d ∷ ds) each = simp length-append (omega (arith, line-fits ed d t (each .0), lines-short ed t ds (each .1)))
 
 module _ (q : Query) (e : refusalOf q ≡ 0) where
   pub heading-short : length (headingOf q) ≤ lineCapacity
   heading-short =
       let by = accepted-by q e in
-      heading-fits _ _ (omega (arith, matching-short q, by .last)) (unfold visitedDays in omega (arith, visited-short q (spanLength q) (q .first), by .last))
+      heading-fits _ _ _ (omega (arith, matching-short q, by .last)) (unfold visitedDays in omega (arith, visited-short q (spanLength q) (q .first), by .last))
 
   pub output-short : length (outputOf q) ≤ 51404928
   unfolding outputOf
   output-short =
       let by = accepted-by q e in
-      simp length-append (omega (arith, heading-short, lines-short (matchingDays q) (each-day q e), matching-short q, by .last))
+      simp length-append (omega (arith, heading-short, lines-short (q .edition) (by .edition) (matchingDays q) (each-day q e), matching-short q, by .last))

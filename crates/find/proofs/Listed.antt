@@ -11,6 +11,7 @@ use lib.ListN.{length, take, drop}
 use lib.Seq.{take-at}
 use Rattle.query.specs.declared.Query.{Query}
 use Rattle.query.specs.Query.{refusalOf}
+use Rattle.query.proofs.Accepted.{accepted-by}
 use Rattle.search.specs.declared.Found.{Found}
 use Rattle.search.specs.Days.{matchingDays, visitedDays}
 use Rattle.search.specs.Search.{resultOf, listAfter, Searched}
@@ -54,7 +55,7 @@ module _ (q : Query) (e : refusalOf q ≡ 0) (list : List ℕ) (found : Found) (
     there = omega (arith, count, ap length front-is, entries-length (matchingDays q))
 
     pub listed : frontDays after (found .length) ≡ matchingDays q
-    listed = ap (λ (l : List ℕ). listedFrom l 0) front-is ∙ listed-entries (matchingDays q) (each-day q e)
+    listed = ap (λ (l : List ℕ). listedFrom l 0) front-is ∙ listed-entries (q .edition) (matchingDays q) (each-day q e)
 
-    pub each : (room : ℕ) → lineCapacity ≤ room → EachFits room (frontDays after (found .length))
-    each room h = rw listed (each-fits room (matchingDays q) h (each-day q e))
+    pub each : (room : ℕ) → lineCapacity ≤ room → EachFits (q .edition) room (frontDays after (found .length))
+    each room h = rw listed (each-fits (q .edition) (accepted-by q e .edition) room (matchingDays q) h (each-day q e))

@@ -28,7 +28,7 @@ pub record Parting (q : Query) (first written : ℕ) : Type 0 where
   pub low : q .first ≤ first
   pub high : first ≤ q .last + 1
   pub within : written ≤ length (outputOf q)
-  pub left : drop written (outputOf q) ≡ dayLines (matchingDays (between q first (q .last)))
+  pub left : drop written (outputOf q) ≡ dayLines (q .edition) (matchingDays (between q first (q .last)))
 
 module _ (q : Query) (e : refusalOf q ≡ 0) where
   pub parting-start : (written : ℕ) → written ≡ length (headingOf q) → Parting q (q .first) written
@@ -37,15 +37,15 @@ module _ (q : Query) (e : refusalOf q ≡ 0) where
       record {
         low = omega arith;
         high = omega (arith, accepted-by q e .first);
-        within = omega (arith, length-append (headingOf q) (dayLines (matchingDays q)));
-        left = ap (λ (n : ℕ). drop n (outputOf q)) h ∙ drop-append-seam (headingOf q) (dayLines (matchingDays q));
+        within = omega (arith, length-append (headingOf q) (dayLines (q .edition) (matchingDays q)));
+        left = ap (λ (n : ℕ). drop n (outputOf q)) h ∙ drop-append-seam (headingOf q) (dayLines (q .edition) (matchingDays q));
       }
 
   -- the last line is written
   pub parted : (first written : ℕ) → Parting q first written → q .last < first → written ≡ length (outputOf q)
   parted first written p h =
       let end : first ≡ q .last + 1 = omega (arith, p .high) in
-      let none : drop written (outputOf q) ≡ [] = p .left ∙ ap dayLines (ap (λ (a : ℕ). matchingDays (between q a (q .last))) end ∙ no-days q (q .last)) ∙ (unfold dayLines in refl) in
+      let none : drop written (outputOf q) ≡ [] = p .left ∙ ap (dayLines (q .edition)) (ap (λ (a : ℕ). matchingDays (between q a (q .last))) end ∙ no-days q (q .last)) ∙ (unfold dayLines in refl) in
       omega (arith, p .within, length-drop written (outputOf q), ap length none)
 
   -- an entry for each day is enough
@@ -61,10 +61,10 @@ module _ (q : Query) (e : refusalOf q ≡ 0) where
     days = matchingDays (between q first last)
 
     abbrev later : List ℕ
-    later = dayLines (matchingDays (between q (last + 1) (q .last)))
+    later = dayLines (q .edition) (matchingDays (between q (last + 1) (q .last)))
 
-    left-now : drop written (outputOf q) ≡ dayLines days ++ later
-    left-now = p .left ∙ ap dayLines (adjoining q first last (q .last) (omega arith) high) ∙ lines-append days (matchingDays (between q (last + 1) (q .last)))
+    left-now : drop written (outputOf q) ≡ dayLines (q .edition) days ++ later
+    left-now = p .left ∙ ap (dayLines (q .edition)) (adjoining q first last (q .last) (omega arith) high) ∙ lines-append (q .edition) days (matchingDays (between q (last + 1) (q .last)))
 
     module _ (list : List ℕ) (found : Found) (after : List ℕ) (s : Searched (between q first last) list found after) (fits : length days ≤ capacity list) where
       here : frontDays after (found .length) ≡ days
@@ -74,19 +74,19 @@ module _ (q : Query) (e : refusalOf q ≡ 0) where
       part-next room h =
           record {
             there = there (between q first last) good-part list found after s fits;
-            next = rw here (next-of q written (dayLines days) later left-now);
+            next = rw here (next-of q written (dayLines (q .edition) days) later left-now);
             each = each (between q first last) good-part list found after s fits room h;
           }
 
-      pub parting-step : (bytes : ℕ) → bytes ≡ written + length (dayLines (frontDays after (found .length))) → Parting q (last + 1) bytes
+      pub parting-step : (bytes : ℕ) → bytes ≡ written + length (dayLines (q .edition) (frontDays after (found .length))) → Parting q (last + 1) bytes
       parting-step bytes h =
-          let sum : bytes ≡ written + length (dayLines days) = h ∙ ap (λ (ds : List ℕ). written + length (dayLines ds)) here in
-          let more : length (outputOf q) - written ≡ length (dayLines days) + length later = sym (length-drop written (outputOf q)) ∙ ap length left-now ∙ length-append (dayLines days) later in
+          let sum : bytes ≡ written + length (dayLines (q .edition) days) = h ∙ ap (λ (ds : List ℕ). written + length (dayLines (q .edition) ds)) here in
+          let more : length (outputOf q) - written ≡ length (dayLines (q .edition) days) + length later = sym (length-drop written (outputOf q)) ∙ ap length left-now ∙ length-append (dayLines (q .edition) days) later in
           record {
             low = omega (arith, p .low);
             high = omega arith;
             within = omega (arith, p .within);
-            left = ap (λ (n : ℕ). drop n (outputOf q)) sum ∙ left-of q written (dayLines days) later left-now;
+            left = ap (λ (n : ℕ). drop n (outputOf q)) sum ∙ left-of q written (dayLines (q .edition) days) later left-now;
           }
 
   -- the whole span is a part too
@@ -94,7 +94,7 @@ module _ (q : Query) (e : refusalOf q ≡ 0) where
     pub whole-next : (room : ℕ) → lineCapacity ≤ room → NextDays q written after (found .length) room
     whole-next = part-next (q .first) written (q .last) (parting-start written h) (accepted-by q e .first) (omega arith) list found after s (enough q e list found after s accepted)
 
-    pub whole-printed : (bytes : ℕ) → bytes ≡ written + length (dayLines (frontDays after (found .length))) → bytes ≡ length (outputOf q)
+    pub whole-printed : (bytes : ℕ) → bytes ≡ written + length (dayLines (q .edition) (frontDays after (found .length))) → bytes ≡ length (outputOf q)
     whole-printed bytes b =
         parted (q .last + 1) bytes
         (parting-step (q .first) written (q .last) (parting-start written h) (accepted-by q e .first) (omega arith) list found after s (enough q e list found after s accepted) bytes b)

@@ -1,5 +1,6 @@
 -- The loop of `print_days`: the output from the bytes written on begins with the lines that are still due, and a piece is the front of these, by
 -- the law of the pieces. Assumes nothing.
+use mathlib.Core.Bool.{true}
 use mathlib.Core.Path.{_≡_, refl, ap, sym, _∙_}
 use mathlib.Core.List.{List, _++_, append-assoc}
 use Prim.Native.Nat.{ℕ, _+_, _-_, _≤_, _<_}
@@ -8,7 +9,9 @@ use lib.ListN.{length, take, drop, length-append, length-drop}
 use Rattle.query.specs.declared.Query.{Query}
 use Rattle.query.specs.Query.{refusalOf}
 use Rattle.catalogue.specs.declared.Piece.{Piece}
-use Rattle.catalogue.specs.Pieces.{listedFrom, dayLines, linesPiece, linesAfter}
+use Rattle.panchanga.specs.TrueLongitudes.{isEdition}
+use Rattle.catalogue.specs.Pieces.{listedFrom, dayLines, linesPiece, linesAfter, ofEdition, leftInEdition}
+use Rattle.catalogue.proofs.Pieces.{piece-given, buffer-given}
 use Rattle.catalogue.specs.Each.{EachFits}
 use Rattle.catalogue.proofs.Together.{Going, going}
 use Rattle.find.specs.Output.{outputOf, NextBytes}
@@ -17,24 +20,24 @@ use Rattle.find.proofs.Next.{next-of, due-of, left-of}
 
 module _ (q : Query) (days : List ℕ) (before : ℕ) where
   abbrev due : ℕ → List ℕ
-  due next = dayLines (listedFrom days next)
+  due next = dayLines (q .edition) (listedFrom days next)
 
   abbrev end : ℕ
   end = before + length (due 0)
 
   pub record Printing (room : ℕ) (buffer : List ℕ) (written next : ℕ) : Type 0 where
     pub same : length buffer ≡ room
-    pub each : EachFits room (listedFrom days next)
+    pub each : EachFits (q .edition) room (listedFrom days next)
     pub left : drop written (outputOf q) ≡ due next ++ drop end (outputOf q)
     pub sum : written + length (due next) ≡ end
 
-  pub printing-start : (buffer : List ℕ) → EachFits (length buffer) (listedFrom days 0) → NextBytes q before (due 0) → Printing (length buffer) buffer before 0
+  pub printing-start : (buffer : List ℕ) → EachFits (q .edition) (length buffer) (listedFrom days 0) → NextBytes q before (due 0) → Printing (length buffer) buffer before 0
   printing-start buffer each n = record { same = refl; each = each; left = due-of q before (due 0) n; sum = refl }
 
   module _ (room : ℕ) (buffer : List ℕ) (written next : ℕ) (p : Printing room buffer written next) (piece : Piece) (after : List ℕ)
-      (told : piece ≡ linesPiece days next (length buffer)) (put : after ≡ linesAfter days next buffer) where
-    pub step : Going days next buffer piece after
-    step = rw (told, put) (going days next buffer (rw (p .same) (p .each)))
+      (t : isEdition (q .edition) ≡ true) (told : piece ≡ ofEdition (q .edition) (linesPiece (q .edition) days next (length buffer))) (put : after ≡ leftInEdition (q .edition) buffer (linesAfter (q .edition) days next buffer)) where
+    pub step : Going (q .edition) days next buffer piece after
+    step = rw (told ∙ piece-given (q .edition) t _, put ∙ buffer-given (q .edition) t _ _) (going (q .edition) days next buffer (rw (p .same) (p .each)))
 
     left-now : drop written (outputOf q) ≡ take (piece .bytes) after ++ (due (piece .next) ++ drop end (outputOf q))
     left-now = p .left ∙ ap (λ (l : List ℕ). l ++ drop end (outputOf q)) (step .lines) ∙ append-assoc (take (piece .bytes) after) (due (piece .next)) (drop end (outputOf q))
@@ -45,7 +48,7 @@ module _ (q : Query) (days : List ℕ) (before : ℕ) where
     -- all that is due is written
     pub printed : piece .bytes ≡ 0 → written ≡ end
     unfolding dayLines
-    printed none = omega (arith, p .sum, ap (λ (ds : List ℕ). length (dayLines ds)) (step .done none))
+    printed none = omega (arith, p .sum, ap (λ (ds : List ℕ). length (dayLines (q .edition) ds)) (step .done none))
 
     -- the bytes of a piece, within the output
     length-now : length (outputOf q) - written ≡ piece .bytes + length (due (piece .next) ++ drop end (outputOf q))

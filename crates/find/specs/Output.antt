@@ -10,13 +10,13 @@ use Rattle.catalogue.specs.Catalogue.{catalogueHeading}
 use Rattle.catalogue.specs.Pieces.{listedFrom, dayLines}
 use Rattle.catalogue.specs.Each.{EachFits}
 
--- the heading for a query, with the number of matching days and of days looked at
+-- the heading for a query, in its edition, with the number of matching days and of days looked at
 abbrev pub headingOf : Query → List ℕ
-headingOf q = catalogueHeading (length (matchingDays q)) (length (visitedDays q))
+headingOf q = catalogueHeading (q .edition) (length (matchingDays q)) (length (visitedDays q))
 
 -- ALL THAT IS WRITTEN: the heading, and the line of each matching day, earliest first
 unfoldable pub outputOf : Query → List ℕ
-outputOf q = headingOf q ++ dayLines (matchingDays q)
+outputOf q = headingOf q ++ dayLines (q .edition) (matchingDays q)
 
 -- these bytes are the output's, behind its first n
 abbrev pub NextBytes : Query → ℕ → List ℕ → Type 0
@@ -33,5 +33,5 @@ frontDays list n = listedFrom (front list n) 0
 -- a list has n entries, their days' lines are the output's next bytes, and each line fits whole into a buffer of so many bytes
 pub record NextDays (q : Query) (before : ℕ) (list : List ℕ) (n room : ℕ) : Type 0 where
   pub there : length (front list n) ≡ 4 * n
-  pub next : NextBytes q before (dayLines (frontDays list n))
-  pub each : EachFits room (frontDays list n)
+  pub next : NextBytes q before (dayLines (q .edition) (frontDays list n))
+  pub each : EachFits (q .edition) room (frontDays list n)

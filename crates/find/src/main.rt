@@ -44,7 +44,7 @@ fn print_heading(query: Query, found: Found, buffer: &mut [u8]) -> Written
     requires { ⌜ (found .length ≡ length (matchingDays query)) × (found .examined ≡ length (visitedDays query)) ⌝ }
     ensures { λ r. ⌜ r .bytes ≡ length (headingOf query) ⌝ }
 {
-    let piece = catalogue::heading(found.length, found.examined, buffer);
+    let piece = catalogue::heading(query.edition, found.length, found.examined, buffer);
     let bytes = piece.bytes;
     let whole = write_next(query, 0, &buffer[..bytes]);
     Written { bytes, whole }
@@ -52,13 +52,13 @@ fn print_heading(query: Query, found: Found, buffer: &mut [u8]) -> Written
 
 // The lines of a list's days, piece by piece.
 fn print_days(query: Query, before: usize, days: &[u8], buffer: &mut [u8]) -> Written
-    requires { ⌜ (refusalOf query ≡ 0) × EachFits (length (now buffer)) (listedFrom (now days) 0) × NextBytes query before (dayLines (listedFrom (now days) 0)) ⌝ }
-    ensures { λ r. ⌜ (r .whole ≡ true → r .bytes ≡ before + length (dayLines (listedFrom (now (days .entry)) 0))) ⌝ }
+    requires { ⌜ (refusalOf query ≡ 0) × EachFits (query .edition) (length (now buffer)) (listedFrom (now days) 0) × NextBytes query before (dayLines (query .edition) (listedFrom (now days) 0)) ⌝ }
+    ensures { λ r. ⌜ (r .whole ≡ true → r .bytes ≡ before + length (dayLines (query .edition) (listedFrom (now (days .entry)) 0))) ⌝ }
 {
     let mut written = before;
     let mut next: usize = 0;
     loop {
-        let piece = catalogue::lines(days, next, buffer);
+        let piece = catalogue::lines(query.edition, days, next, buffer);
         let bytes = piece.bytes;
         if bytes == 0 {
             return Written {
@@ -86,7 +86,7 @@ fn print_listed(
     buffer: &mut [u8],
 ) -> Written
     requires { ⌜ (refusalOf query ≡ 0) × NextDays query before (now list) (found .length) (length (now buffer)) ⌝ }
-    ensures { λ r. ⌜ (r .whole ≡ true → r .bytes ≡ before + length (dayLines (frontDays (now (list .entry)) (found .length)))) ⌝ }
+    ensures { λ r. ⌜ (r .whole ≡ true → r .bytes ≡ before + length (dayLines (query .edition) (frontDays (now (list .entry)) (found .length)))) ⌝ }
 {
     let end = entries::ENTRY_BYTES * found.length as usize;
     print_days(query, before, &list[..end], buffer)

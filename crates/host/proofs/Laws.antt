@@ -13,6 +13,7 @@ use Rattle.civil.specs.Answers.{dateOfDay}
 use Rattle.longitudes.specs.declared.Body.{Body}
 use Rattle.longitudes.specs.Answers.{longitudeOf, longitudesOf}
 use Rattle.longitudes.proofs.Answers.{longitude-given, longitude-refused}
+use Rattle.panchanga.specs.TrueLongitudes.{firstEdition, isEdition}
 use Rattle.panchanga.specs.OnDays.{panchangaOf}
 use Rattle.host.specs.Calls.{onNumber}
 use Rattle.host.proofs.OnNumbers.{pair-past-last, on-number}
@@ -22,12 +23,13 @@ pub record Refused (n refusal : ℕ) : Type 0 where
   pub date : dateOfDay n .refusal ≡ refusal
   pub longitudes : longitudesOf (pairAt n) .refusal ≡ refusal
   pub longitude : (b : Body) → longitudeOf b (pairAt n) .refusal ≡ refusal
-  pub elements : panchangaOf (pairAt n) .refusal ≡ refusal
+  -- of the first edition, as all calls are
+  pub elements : panchangaOf firstEdition (pairAt n) .refusal ≡ refusal
   -- each single number f of a day: the weekday, a mean longitude's seconds or thirds, the true Sun and Moon, an element
   pub number : (f : Day → ℕ) → onDay f (pairAt n) .refusal ≡ refusal
 
 there-is : (n : ℕ) → n ≤ lastDay → Refused n accepted
-unfolding dateOfDay longitudesOf panchangaOf
+unfolding dateOfDay longitudesOf panchangaOf isEdition
 there-is n h =
     record {
       date = rw (le-leb _ _ h);
@@ -38,7 +40,7 @@ there-is n h =
     }
 
 there-is-none : (n : ℕ) → lastDay < n → Refused n outOfRange
-unfolding dateOfDay longitudesOf panchangaOf
+unfolding dateOfDay longitudesOf panchangaOf isEdition
 there-is-none n h =
     record {
       date = rw (lt-leb _ _ h);

@@ -4,6 +4,7 @@ use mathlib.Core.Bool.{true}
 use mathlib.Core.List.{_∷_}
 use Prim.Native.Nat.{ℕ}
 use lib.ListN.{replicate}
+use Rattle.panchanga.specs.TrueLongitudes.{firstEdition}
 use Rattle.query.specs.declared.Query.{Query}
 use Rattle.query.specs.Conditions.{notAsked, noArc}
 
@@ -12,6 +13,7 @@ hostQuery first last start width weekday =
     record {
       first = first;
       last = last;
+      edition = firstEdition;
       weekday = record { given = true; value = weekday };
       tithi = notAsked;
       nakshatra = notAsked;

@@ -1,10 +1,12 @@
-// The numbers of a day, by its number: the weekday, mean longitudes in seconds of arc and the thirds behind them, true longitudes, and the panchanga elements. 0 where there is no such day.
+// The numbers of a day, by its number: the weekday, mean longitudes in seconds of arc and the thirds behind them, true longitudes, and the panchanga elements; these are of the first edition. 0 where there is no such day.
 use days::Day;
 use longitudes::Body;
+use panchanga::FIRST_EDITION;
 ghost use mathlib.Core.Path.{_≡_};
 ghost use Rattle.days.specs.Days.{pairAt, weekdayAt};
 ghost use Rattle.longitudes.specs.Longitudes.{longitudeAt, thirdsAt};
 ghost use Rattle.longitudes.specs.Answers.{bodyNumber};
+ghost use Rattle.panchanga.specs.TrueLongitudes.{firstEdition};
 ghost use Rattle.panchanga.specs.OnDays.{trueSunAt, trueMoonAt, tithiAt, nakshatraAt, yogaAt, karanaAt};
 ghost use Rattle.host.specs.Calls.{onNumber};
 
@@ -174,35 +176,35 @@ pub extern "C" fn graha_true_sun(day: u32) -> u32
 
 #[no_mangle]
 pub extern "C" fn graha_true_moon(day: u32) -> u32
-    ensures { λ r. ⌜ r ≡ onNumber trueMoonAt day ⌝ }
+    ensures { λ r. ⌜ r ≡ onNumber (trueMoonAt firstEdition) day ⌝ }
 {
-    panchanga::true_moon(pair(day)).number
+    panchanga::true_moon(FIRST_EDITION, pair(day)).number
 }
 
 #[no_mangle]
 pub extern "C" fn graha_tithi(day: u32) -> u32
-    ensures { λ r. ⌜ r ≡ onNumber tithiAt day ⌝ }
+    ensures { λ r. ⌜ r ≡ onNumber (tithiAt firstEdition) day ⌝ }
 {
-    panchanga::tithi(pair(day)).number
+    panchanga::tithi(FIRST_EDITION, pair(day)).number
 }
 
 #[no_mangle]
 pub extern "C" fn graha_nakshatra(day: u32) -> u32
-    ensures { λ r. ⌜ r ≡ onNumber nakshatraAt day ⌝ }
+    ensures { λ r. ⌜ r ≡ onNumber (nakshatraAt firstEdition) day ⌝ }
 {
-    panchanga::nakshatra(pair(day)).number
+    panchanga::nakshatra(FIRST_EDITION, pair(day)).number
 }
 
 #[no_mangle]
 pub extern "C" fn graha_yoga(day: u32) -> u32
-    ensures { λ r. ⌜ r ≡ onNumber yogaAt day ⌝ }
+    ensures { λ r. ⌜ r ≡ onNumber (yogaAt firstEdition) day ⌝ }
 {
-    panchanga::yoga(pair(day)).number
+    panchanga::yoga(FIRST_EDITION, pair(day)).number
 }
 
 #[no_mangle]
 pub extern "C" fn graha_karana(day: u32) -> u32
-    ensures { λ r. ⌜ r ≡ onNumber karanaAt day ⌝ }
+    ensures { λ r. ⌜ r ≡ onNumber (karanaAt firstEdition) day ⌝ }
 {
-    panchanga::karana(pair(day)).number
+    panchanga::karana(FIRST_EDITION, pair(day)).number
 }

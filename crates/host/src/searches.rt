@@ -1,4 +1,5 @@
-// The host's search, for a Sun arc and a weekday, both always. The walk over the days is the library's.
+// The host's search, for a Sun arc and a weekday, both always; it asks for nothing that hangs on an edition. The walk over the days is the library's.
+use panchanga::FIRST_EDITION;
 use query::Arc;
 use query::Asked;
 use query::Query;
@@ -38,6 +39,7 @@ fn query_of(first: u32, last: u32, start: u32, width: u32, weekday: u32) -> Quer
     Query {
         first,
         last,
+        edition: FIRST_EDITION,
         weekday,
         tithi: Asked::NONE,
         nakshatra: Asked::NONE,

@@ -1,7 +1,7 @@
 -- Reduction in naturals: of an integer a − b, t whole turns are put on first, so that what is reduced is a natural.
 -- Assumes nothing.
 use mathlib.Core.Path.{_≡_, sym, ap, _∙_}
-use Prim.Native.Nat.{ℕ, suc, _+_, _*_, _-_, _/_, _%_, _≤_, _<_}
+use Prim.Native.Nat.{ℕ, suc, _+_, _*_, _-_, _/_, _%_, _<_}
 use native.Mathlib.Omega.{arith}
 use native.Mathlib.Nat.{add-mul-div-right, add-mul-mod-self-right, div-add-mod', mod-lt, mod-eq-of-lt, mul-le-mul-right, lt-of-mul-lt-mul-right}
 use lib.IntN.{ℤ, pos, negsuc}

@@ -5,7 +5,7 @@ use Prim.Native.Nat.{ℕ, _≤_, _<_}
 use native.Mathlib.Omega.{arith}
 use lib.Dec.{eqb}
 use lib.ListN.{length, length-append}
-use Rattle.days.specs.Refusals.{noSuchDate, outOfRange, lastBeforeFirst}
+use Rattle.days.specs.Refusals.{noSuchDate, outOfRange, lastBeforeFirst, badEdition}
 use Rattle.page.specs.Page.{unknownWord, manyValues, badValue, repeatedWord, notEnded}
 use Rattle.text.specs.Lines.{lineCapacity}
 use Rattle.text.proofs.Printing.{digits-length}
@@ -20,7 +20,7 @@ refusal-short : (refusal : ℕ) → length (refusalText refusal) ≤ 53
 unfolding refusalText
 refusal-short refusal =
     picked (eqb refusal noSuchDate) _ _ 53 (omega arith)
-    (picked (eqb refusal outOfRange) _ _ 53 (omega arith) (picked (eqb refusal lastBeforeFirst) _ _ 53 (omega arith) (omega arith)))
+    (picked (eqb refusal outOfRange) _ _ 53 (omega arith) (picked (eqb refusal lastBeforeFirst) _ _ 53 (omega arith) (picked (eqb refusal badEdition) _ _ 53 (omega arith) (omega arith))))
 
 fault-short : (refusal reason : ℕ) → length (faultText refusal reason) ≤ 53
 unfolding faultText

@@ -4,7 +4,7 @@ use mathlib.Core.Bool.{cond}
 use mathlib.Core.List.{List, _++_}
 use Prim.Native.Nat.{ℕ}
 use lib.Dec.{eqb}
-use Rattle.days.specs.Refusals.{noSuchDate, outOfRange, lastBeforeFirst}
+use Rattle.days.specs.Refusals.{noSuchDate, outOfRange, lastBeforeFirst, badEdition}
 use Rattle.page.specs.Page.{unknownWord, manyValues, badValue, repeatedWord, notEnded}
 use Rattle.text.specs.Ascii.{ascii}
 use Rattle.text.specs.Decimal.{digitsOf}
@@ -14,7 +14,8 @@ unfoldable pub refusalText : ℕ → List ℕ
 refusalText refusal =
     cond (eqb refusal noSuchDate) (ascii "there is no such date\n")
     (cond (eqb refusal outOfRange) (ascii "a day outside 0 to 401599\n")
-    (cond (eqb refusal lastBeforeFirst) (ascii "the last day is before the first\n") (ascii "a value is out of range\n")))
+    (cond (eqb refusal lastBeforeFirst) (ascii "the last day is before the first\n")
+    (cond (eqb refusal badEdition) (ascii "an edition other than 1 and 2\n") (ascii "a value is out of range\n"))))
 
 -- why a line is malformed, or else what its refusal says
 unfoldable pub faultText : ℕ → ℕ → List ℕ

@@ -12,6 +12,7 @@ fn with_refusal(line: Line, refusal: u32) -> Line
         refusal::NO_SUCH_DATE => line.text(b"there is no such date\n"),
         refusal::OUT_OF_RANGE => line.text(b"a day outside 0 to 401599\n"),
         refusal::LAST_BEFORE_FIRST => line.text(b"the last day is before the first\n"),
+        refusal::BAD_EDITION => line.text(b"an edition other than 1 and 2\n"),
         _ => line.text(b"a value is out of range\n"),
     }
 }

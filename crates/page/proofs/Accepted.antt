@@ -12,6 +12,7 @@ use lib.Seq.{getD-set-same, getD-set-other}
 use Rattle.days.specs.declared.NumberAnswer.{NumberAnswer}
 use Rattle.days.specs.Refusals.{badInput}
 use Rattle.days.specs.Days.{lastDay}
+use Rattle.panchanga.specs.TrueLongitudes.{firstEdition, isEdition}
 use Rattle.query.specs.declared.Asked.{Asked}
 use Rattle.query.specs.declared.Arc.{Arc}
 use Rattle.query.specs.declared.Query.{Query}
@@ -26,18 +27,18 @@ use Rattle.page.specs.Names.{keywords}
 use Rattle.page.specs.declared.LineRead.{LineRead}
 use Rattle.page.specs.declared.Fault.{Fault}
 use Rattle.page.specs.declared.Page.{Page}
-use Rattle.page.specs.Page.{spanKeyword, weekdayKeyword, tithiKeyword, nakshatraKeyword, yogaKeyword, arcKeywords, keywordCount, everyDay, withCondition, rankOf, ranksBefore, firstRefusal, firstValue, secondValue, unknownWord, manyValues, malformedLine, blankLine, conditionRead, wordsRead, lineRead, firstFault, withFault, withLine, withLines, emptyPage, pageAnswer, pageRead}
+use Rattle.page.specs.Page.{spanKeyword, weekdayKeyword, tithiKeyword, nakshatraKeyword, yogaKeyword, editionKeyword, arcKeywords, keywordCount, everyDay, withCondition, rankOf, ranksBefore, firstRefusal, firstValue, secondValue, unknownWord, manyValues, malformedLine, blankLine, conditionRead, wordsRead, lineRead, firstFault, withFault, withLine, withLines, emptyPage, pageAnswer, pageRead}
 
 -- a refusal that has a rank
 abbrev Ranked : ℕ → Type 0
-Ranked r = (r ≡ 0 → ⊥) → rankOf r < 5
+Ranked r = (r ≡ 0 → ⊥) → rankOf r < 6
 
 ranked-0 : Ranked 0
 ranked-0 h = absurd (h refl)
 
-ranked-all : Ranked 1 × Ranked 2 × Ranked 3 × Ranked 5 × Ranked 6
+ranked-all : Ranked 1 × Ranked 2 × Ranked 3 × Ranked 5 × Ranked 6 × Ranked 14
 unfolding rankOf
-ranked-all = (λ _. omega arith, λ _. omega arith, λ _. omega arith, λ _. omega arith, λ _. omega arith)
+ranked-all = (λ _. omega arith, λ _. omega arith, λ _. omega arith, λ _. omega arith, λ _. omega arith, λ _. omega arith)
 
 -- the refusals of a value that is read
 ranked-read : (r : ℕ) → r ≤ badInput → Ranked r
@@ -67,9 +68,11 @@ first-refusal-ranked r t kr kt = either Ranked (ltb (rankOf t) (rankOf r)) kt kr
 query-ranked : (q : Query) → Ranked (refusalOf q)
 unfolding refusalOf
 query-ranked q =
-    either Ranked (leb (q .first) lastDay && leb (q .last) lastDay)
+    either Ranked (isEdition (q .edition))
+    (either Ranked (leb (q .first) lastDay && leb (q .last) lastDay)
     (either Ranked (leb (q .first) (q .last)) (either Ranked (conditionsInRange q) ranked-0 (ranked-all .4)) (ranked-all .3))
-    (ranked-all .1)
+    (ranked-all .1))
+    (ranked-all .5)
 
 -- a line's refusal has a rank, and a condition that it does not refuse is not refused alone
 record SoundLine (l : LineRead) : Type 0 where
@@ -115,15 +118,16 @@ line-read-sound : (l : List ℕ) → SoundLine (lineRead l)
 unfolding lineRead
 line-read-sound l = words-sound _ _ _ _
 
-rank-most : (r : ℕ) → rankOf r ≤ 5
+rank-most : (r : ℕ) → rankOf r ≤ 6
 unfolding rankOf
 rank-most r =
-    either (λ n. n ≤ 5) (eqb r 3) (omega arith)
-    (either (λ n. n ≤ 5) (eqb r 1) (omega arith)
-    (either (λ n. n ≤ 5) (eqb r 2) (omega arith)
-    (either (λ n. n ≤ 5) (eqb r 5) (omega arith) (either (λ n. n ≤ 5) (eqb r 6) (omega arith) (omega arith)))))
+    either (λ n. n ≤ 6) (eqb r 14) (omega arith)
+    (either (λ n. n ≤ 6) (eqb r 3) (omega arith)
+    (either (λ n. n ≤ 6) (eqb r 1) (omega arith)
+    (either (λ n. n ≤ 6) (eqb r 2) (omega arith)
+    (either (λ n. n ≤ 6) (eqb r 5) (omega arith) (either (λ n. n ≤ 6) (eqb r 6) (omega arith) (omega arith))))))
 
-rank-accepted : rankOf 0 ≡ 5
+rank-accepted : rankOf 0 ≡ 6
 unfolding rankOf
 rank-accepted = refl
 
@@ -157,6 +161,7 @@ first-fault-latter f g k r = go (eqb (g .refusal) 0) refl
 
 -- what makes a query not refused
 record Accepted (q : Query) : Type 0 where
+  edition : isEdition (q .edition) ≡ true
   order : q .first ≤ q .last
   end : q .last ≤ lastDay
   weekday : askedInRange (q .weekday) 6 ≡ true
@@ -172,14 +177,15 @@ arc-in-range arcs e body h = go (arcInRange (arcAt arcs body)) refl
     go true f = f
     go false f = absurd (false≢true (sym (arcs-false arcs body h f) ∙ e))
 
-accepted-conditions : (q : Query) → q .first ≤ q .last → q .last ≤ lastDay → conditionsInRange q ≡ true → Accepted q
+accepted-conditions : (q : Query) → isEdition (q .edition) ≡ true → q .first ≤ q .last → q .last ≤ lastDay → conditionsInRange q ≡ true → Accepted q
 unfolding conditionsInRange
-accepted-conditions q order end e =
+accepted-conditions q edition order end e =
     let w = and-eq-true-iff _ _ .0 e in
     let t = and-eq-true-iff _ _ .0 (w .1) in
     let n = and-eq-true-iff _ _ .0 (t .1) in
     let y = and-eq-true-iff _ _ .0 (n .1) in
     record {
+      edition = edition;
       order = order;
       end = end;
       weekday = w .0;
@@ -190,12 +196,13 @@ accepted-conditions q order end e =
     }
 
 accepted-parts : (q : Query) → refusalOf q ≡ 0 → Accepted q
-accepted-parts q h = let by = accepted-by q h in accepted-conditions q (by .first) (by .last) (by .conditions)
+accepted-parts q h = let by = accepted-by q h in accepted-conditions q (by .edition) (by .first) (by .last) (by .conditions)
 
 parts-accepted : (q : Query) → Accepted q → refusalOf q ≡ 0
 unfolding refusalOf conditionsInRange
 parts-accepted q g =
     rw (
+      g .edition,
       le-leb (q .first) lastDay (omega (arith, g .order, g .end)),
       le-leb (q .last) lastDay (g .end),
       le-leb (q .first) (q .last) (g .order),
@@ -258,6 +265,7 @@ together :
 unfolding withCondition
 together q k a b hk nine g alone =
     record {
+      edition = picked (λ (n : ℕ). isEdition n ≡ true) (eqb k editionKeyword) a firstEdition (q .edition) (alone .edition) (g .edition);
       order = span-picked (eqb k spanKeyword) a b (q .first) (q .last) (alone .order) (g .order);
       end = picked (λ (n : ℕ). n ≤ lastDay) (eqb k spanKeyword) b lastDay (q .last) (alone .end) (g .end);
       weekday = picked (λ (x : Asked). askedInRange x 6 ≡ true) (eqb k weekdayKeyword) (asked a) notAsked (q .weekday) (alone .weekday) (g .weekday);
@@ -307,7 +315,7 @@ lines-sound p n (l ∷ []) s = either SoundPage (eqb (length l) 0) s (with-fault
 lines-sound p n (l ∷ m ∷ ms) s = lines-sound (withLine p n (lineRead l)) (suc n) (m ∷ ms) (line-sound p n (lineRead l) s (line-read-sound l))
 
 every-accepted : refusalOf everyDay ≡ 0
-unfolding refusalOf conditionsInRange askedInRange arcsInRange arcInRange
+unfolding refusalOf isEdition conditionsInRange askedInRange arcsInRange arcInRange
 every-accepted = refl
 
 empty-sound : SoundPage emptyPage

@@ -49,7 +49,7 @@ line-within : (p : Page) (n : ℕ) (l : LineRead) → Within n p → Within n (w
 unfolding withLine
 line-within p n l h =
     either (Within n) (leb keywordCount (l .keyword)) (fault-within n (p .fault) _ h (omega arith))
-    (either (Within n) (getD (p .present) (l .keyword) false) (fault-within n (p .fault) _ h (omega arith)) (fault-within n (p .fault) _ h (omega arith)))
+    (either (Within n) (getD (p .present) (l .keyword) false) (fault-within n (p .fault) _ h (fault-within n _ _ (omega arith) (omega arith))) (fault-within n (p .fault) _ h (omega arith)))
 
 lines-within : (p : Page) (n : ℕ) (ls : List (List ℕ)) → Within n p → Within (n + length ls) (withLines p (suc n) ls)
 unfolding withLines

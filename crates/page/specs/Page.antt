@@ -7,7 +7,8 @@ use lib.Dec.{eqb, leb, ltb}
 use lib.ListN.{length, getD, set, replicate}
 use Rattle.days.specs.declared.NumberAnswer.{NumberAnswer}
 use Rattle.days.specs.Days.{lastDay}
-use Rattle.days.specs.Refusals.{accepted, noSuchDate, outOfRange, badInput, lastBeforeFirst, badCondition}
+use Rattle.days.specs.Refusals.{accepted, noSuchDate, outOfRange, badInput, lastBeforeFirst, badCondition, badEdition}
+use Rattle.panchanga.specs.TrueLongitudes.{firstEdition}
 use Rattle.query.specs.declared.Asked.{Asked}
 use Rattle.query.specs.declared.Query.{Query}
 use Rattle.query.specs.Conditions.{notAsked, noArc}
@@ -38,19 +39,23 @@ nakshatraKeyword = 3
 abbrev pub yogaKeyword : ℕ
 yogaKeyword = 4
 
+abbrev pub editionKeyword : ℕ
+editionKeyword = 5
+
 abbrev pub arcKeywords : ℕ
-arcKeywords = 5
+arcKeywords = 6
 
 -- how many keywords there are: the place of any other word
 abbrev pub keywordCount : ℕ
-keywordCount = 14
+keywordCount = 15
 
--- a span without conditions
-abbrev pub onlySpan : ℕ → ℕ → Query
-onlySpan first last =
+-- an edition and a span, without conditions
+abbrev pub onlySpan : ℕ → ℕ → ℕ → Query
+onlySpan edition first last =
     record {
       first = first;
       last = last;
+      edition = edition;
       weekday = notAsked;
       tithi = notAsked;
       nakshatra = notAsked;
@@ -58,9 +63,9 @@ onlySpan first last =
       arcs = replicate 9 noArc;
     }
 
--- every day there is
+-- every day there is, in the first edition
 abbrev pub everyDay : Query
-everyDay = onlySpan 0 lastDay
+everyDay = onlySpan firstEdition 0 lastDay
 
 -- the condition of a field, where k is the field's own keyword
 abbrev pub ownAsked : ℕ → ℕ → ℕ → Asked → Asked
@@ -72,6 +77,7 @@ withCondition q k a b =
     record {
       first = cond (eqb k spanKeyword) a (q .first);
       last = cond (eqb k spanKeyword) b (q .last);
+      edition = cond (eqb k editionKeyword) a (q .edition);
       weekday = ownAsked weekdayKeyword k a (q .weekday);
       tithi = ownAsked tithiKeyword k a (q .tithi);
       nakshatra = ownAsked nakshatraKeyword k a (q .nakshatra);
@@ -79,12 +85,13 @@ withCondition q k a b =
       arcs = cond (leb arcKeywords k) (set (q .arcs) (k - arcKeywords) (record { given = true; start = a; width = b })) (q .arcs);
     }
 
--- the order of refusals: a malformed line, a date that does not exist, then as in the search; accepted is last
+-- the order of refusals: the edition's, a malformed line, a date that does not exist, then as in the search; accepted is last
 unfoldable pub rankOf : ℕ → ℕ
 rankOf r =
-    cond (eqb r badInput) 0
-    (cond (eqb r noSuchDate) 1
-    (cond (eqb r outOfRange) 2 (cond (eqb r lastBeforeFirst) 3 (cond (eqb r badCondition) 4 5))))
+    cond (eqb r badEdition) 0
+    (cond (eqb r badInput) 1
+    (cond (eqb r noSuchDate) 2
+    (cond (eqb r outOfRange) 3 (cond (eqb r lastBeforeFirst) 4 (cond (eqb r badCondition) 5 6)))))
 
 unfoldable pub ranksBefore : ℕ → ℕ → Bool
 ranksBefore r t = ltb (rankOf r) (rankOf t)
@@ -167,11 +174,12 @@ firstFault f g = cond (ranksBefore (g .refusal) (f .refusal)) g f
 abbrev pub withFault : Page → Fault → Page
 withFault p f = record { fault = firstFault (p .fault) f; present = p .present; query = p .query }
 
--- the page with one more line, the nth: each keyword once
+-- the page with one more line, the nth: each keyword once; a repeated one is told but where the line has a refusal that comes first
 unfoldable pub withLine : Page → ℕ → LineRead → Page
 withLine p n l =
     cond (leb keywordCount (l .keyword)) (withFault p (record { refusal = l .refusal; reason = l .reason; line = n }))
-    (cond (getD (p .present) (l .keyword) false) (withFault p (record { refusal = badInput; reason = repeatedWord; line = n }))
+    (cond (getD (p .present) (l .keyword) false)
+    (withFault p (firstFault (record { refusal = badInput; reason = repeatedWord; line = n }) (record { refusal = l .refusal; reason = l .reason; line = n })))
     (record {
       fault = firstFault (p .fault) (record { refusal = l .refusal; reason = l .reason; line = n });
       present = set (p .present) (l .keyword) true;
@@ -196,7 +204,7 @@ unfoldable pub pageAnswer : Page → PageRead
 pageAnswer p =
     cond (eqb (p .fault .refusal) accepted)
     (record { refusal = accepted; reason = 0; line = 0; query = p .query })
-    (record { refusal = p .fault .refusal; reason = p .fault .reason; line = p .fault .line; query = onlySpan 0 0 })
+    (record { refusal = p .fault .refusal; reason = p .fault .reason; line = p .fault .line; query = onlySpan 0 0 0 })
 
 -- WHAT A TEXT MEANS: the query, which is paper 01's reading, or a refusal
 unfoldable pub pageRead : List ℕ → PageRead

@@ -2,6 +2,7 @@
 use days::Day;
 use days::NumberAnswer;
 use days::refusal;
+use panchanga::FIRST_EDITION;
 use query::Arc;
 use query::Asked;
 use query::Query;
@@ -23,7 +24,7 @@ ghost use Rattle.page.specs.Names.{keywords};
 ghost use Rattle.page.specs.Page.{keywordCount, onlySpan, withCondition, rankOf, ranksBefore, firstRefusal, firstValue, secondValue, malformedLine, conditionRead, lineRead, firstFault, withFault, withLine, emptyPage, pageAnswer, pageRead};
 
 // The words that a line begins with, and behind them the names of the bodies; each is known by its place among them all.
-const CONDITIONS: [u8; 33] = *b"span weekday tithi nakshatra yoga";
+const CONDITIONS: [u8; 41] = *b"span weekday tithi nakshatra yoga edition";
 
 const SPAN: usize = 0;
 
@@ -35,11 +36,13 @@ const NAKSHATRA: usize = 3;
 
 const YOGA: usize = 4;
 
+const EDITION: usize = 5;
+
 // The Sun's, and after it the other bodies'.
-const ARCS: usize = 5;
+const ARCS: usize = 6;
 
 // How many keywords there are.
-const KEYWORD_COUNT: usize = 14;
+const KEYWORD_COUNT: usize = 15;
 
 // Why a line is malformed.
 pub const UNKNOWN_WORD: u32 = 1;
@@ -84,12 +87,13 @@ struct Page {
     query: Query,
 }
 
-fn only_span(first: u32, last: u32) -> Query
-    ensures { λ r. ⌜ r ≡ onlySpan first last ⌝ }
+fn only_span(edition: u32, first: u32, last: u32) -> Query
+    ensures { λ r. ⌜ r ≡ onlySpan edition first last ⌝ }
 {
     Query {
         first,
         last,
+        edition,
         weekday: Asked::NONE,
         tithi: Asked::NONE,
         nakshatra: Asked::NONE,
@@ -128,6 +132,10 @@ fn with_condition(query: Query, keyword: usize, first: u32, second: u32) -> Quer
         query.yoga = asked;
         return query;
     }
+    if keyword == EDITION {
+        query.edition = first;
+        return query;
+    }
     let body = keyword - ARCS;
     let mut arcs = query.arcs;
     arcs[body] = Arc {
@@ -143,18 +151,20 @@ fn with_condition(query: Query, keyword: usize, first: u32, second: u32) -> Quer
 fn rank(number: u32) -> u32
     ensures { λ r. ⌜ r ≡ rankOf number ⌝ }
 {
-    if number == refusal::BAD_INPUT {
+    if number == refusal::BAD_EDITION {
         0
-    } else if number == refusal::NO_SUCH_DATE {
+    } else if number == refusal::BAD_INPUT {
         1
-    } else if number == refusal::OUT_OF_RANGE {
+    } else if number == refusal::NO_SUCH_DATE {
         2
-    } else if number == refusal::LAST_BEFORE_FIRST {
+    } else if number == refusal::OUT_OF_RANGE {
         3
-    } else if number == refusal::BAD_CONDITION {
+    } else if number == refusal::LAST_BEFORE_FIRST {
         4
-    } else {
+    } else if number == refusal::BAD_CONDITION {
         5
+    } else {
+        6
     }
 }
 
@@ -226,7 +236,7 @@ fn condition(keyword: usize, first: NumberAnswer, second: NumberAnswer) -> LineR
             second: 0,
         };
     }
-    let every = only_span(0, Day::LAST);
+    let every = only_span(FIRST_EDITION, 0, Day::LAST);
     let alone = with_condition(every, keyword, first.number, second.number);
     let refused = alone.refusal();
     LineRead {
@@ -310,14 +320,12 @@ fn with_line(page: Page, number: usize, line: LineRead) -> Page
     }
     let mut present = page.present;
     if present[keyword] {
-        return with_fault(
-            page,
-            Fault {
-                refusal: refusal::BAD_INPUT,
-                reason: REPEATED_WORD,
-                line: number,
-            },
-        );
+        let repeated = Fault {
+            refusal: refusal::BAD_INPUT,
+            reason: REPEATED_WORD,
+            line: number,
+        };
+        return with_fault(page, first_fault(repeated, fault));
     }
     present[keyword] = true;
     let fault = first_fault(page.fault, fault);
@@ -332,7 +340,7 @@ fn with_line(page: Page, number: usize, line: LineRead) -> Page
 fn empty_page() -> Page
     ensures { λ r. ⌜ r ≡ emptyPage ⌝ }
 {
-    let query = only_span(0, Day::LAST);
+    let query = only_span(FIRST_EDITION, 0, Day::LAST);
     Page {
         fault: Fault {
             refusal: refusal::NONE,
@@ -357,7 +365,7 @@ fn page_answer(page: Page) -> PageRead
             query,
         };
     }
-    let query = only_span(0, 0);
+    let query = only_span(0, 0, 0);
     PageRead {
         refusal: fault.refusal,
         reason: fault.reason,

@@ -8,7 +8,7 @@ use Rattle.days.specs.declared.Day.{Day}
 use Rattle.integers.proofs.Reduced.{reduced-small}
 use Rattle.longitudes.specs.Longitudes.{circle, differenceOf}
 use Rattle.longitudes.proofs.Subtraction.{difference-small}
-use Rattle.panchanga.specs.TrueLongitudes.{corrected, trueLongitude}
+use Rattle.panchanga.specs.TrueLongitudes.{corrected, trueLongitude, secondEdition, moonAlone, trueMoon}
 use Rattle.panchanga.specs.Elements.{karanaAfter}
 use Rattle.panchanga.specs.OnDays.{trueSunAt, trueMoonAt, tithiAt, nakshatraAt, yogaAt, karanaAt}
 
@@ -20,21 +20,32 @@ pub sun-small : (d : Day) → trueSunAt d < circle
 unfolding trueSunAt
 sun-small d = true-small _ _ _ _
 
-pub moon-small : (d : Day) → trueMoonAt d < circle
-unfolding trueMoonAt
-moon-small d = true-small _ _ _ _
+pub moon-alone-small : (apogee mean : ℕ) → moonAlone apogee mean < circle
+moon-alone-small apogee mean = true-small _ _ _ _
 
-pub tithi-small : (d : Day) → tithiAt d < 30
+corrected-small : (mean x size : ℕ) → corrected mean x size < circle
+unfolding corrected
+corrected-small mean x size = reduced-small _ circle (omega arith)
+
+pub moon-small : (e : ℕ) (d : Day) → trueMoonAt e d < circle
+unfolding trueMoonAt trueMoon
+moon-small e d = either (eqb e secondEdition) (corrected-small _ _ _) (true-small _ _ _ _)
+  where
+    either : {a b : ℕ} (t : Bool) → a < circle → b < circle → cond t a b < circle
+    either true h k = h
+    either false h k = k
+
+pub tithi-small : (e : ℕ) (d : Day) → tithiAt e d < 30
 unfolding tithiAt
-tithi-small d = omega (arith, difference-small (trueMoonAt d) (trueSunAt d))
+tithi-small e d = omega (arith, difference-small (trueMoonAt e d) (trueSunAt d))
 
-pub nakshatra-small : (d : Day) → nakshatraAt d < 27
+pub nakshatra-small : (e : ℕ) (d : Day) → nakshatraAt e d < 27
 unfolding nakshatraAt
-nakshatra-small d = omega (arith, moon-small d)
+nakshatra-small e d = omega (arith, moon-small e d)
 
-pub yoga-small : (d : Day) → yogaAt d < 27
+pub yoga-small : (e : ℕ) (d : Day) → yogaAt e d < 27
 unfolding yogaAt
-yoga-small d = omega arith
+yoga-small e d = omega arith
 
 after-range : (h : ℕ) → (1 ≤ karanaAfter h) × (karanaAfter h ≤ 11)
 unfolding karanaAfter
@@ -47,6 +58,6 @@ after-range h = go (eqb h 0) (leb h 56) (eqb h 57) (eqb h 58)
     go false false false true = omega arith
     go false false false false = omega arith
 
-pub karana-range : (d : Day) → (1 ≤ karanaAt d) × (karanaAt d ≤ 11)
+pub karana-range : (e : ℕ) (d : Day) → (1 ≤ karanaAt e d) × (karanaAt e d ≤ 11)
 unfolding karanaAt
-karana-range d = after-range (differenceOf (trueMoonAt d) (trueSunAt d) / 21600)
+karana-range e d = after-range (differenceOf (trueMoonAt e d) (trueSunAt d) / 21600)

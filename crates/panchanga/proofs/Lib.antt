@@ -1,2 +1,4 @@
 pub mod Naturals
 pub mod Bounds
+pub mod Answers
+pub mod Editions

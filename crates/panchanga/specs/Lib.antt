@@ -1,3 +1,4 @@
 pub mod TrueLongitudes
 pub mod Elements
 pub mod OnDays
+pub mod Refusal

@@ -1,57 +1,71 @@
--- True longitudes and panchanga elements of a day (paper 01's true places and limbs), and what is handed back of them.
+-- True longitudes and panchanga elements of a day (paper 01's true places and limbs), and what is handed back of them. What hangs on the Moon is of an edition.
 -- Assumes nothing.
 use mathlib.Core.Bool.{cond}
 use Prim.Native.Nat.{ℕ}
 use Rattle.days.specs.declared.Day.{Day}
 use Rattle.days.specs.declared.NumberAnswer.{NumberAnswer}
-use Rattle.days.specs.Refusals.{accepted, outOfRange}
-use Rattle.days.specs.Days.{inRange, onDay}
+use Rattle.days.specs.Refusals.{accepted, outOfRange, badEdition}
+use Rattle.days.specs.Days.{inRange, noNumber, onDay}
 use Rattle.longitudes.specs.declared.Body.the-variants.{Sun, Moon, MoonApogee}
 use Rattle.longitudes.specs.Longitudes.{longitudeAt}
 use Rattle.longitudes.specs.Answers.{bodyNumber}
 use Rattle.panchanga.specs.declared.Panchanga.{Panchanga}
-use Rattle.panchanga.specs.TrueLongitudes.{trueSun, trueMoon}
+use Rattle.panchanga.specs.TrueLongitudes.{trueSun, isEdition, moonAlone, trueMoon}
 use Rattle.panchanga.specs.Elements.{tithi, nakshatra, yoga, karana}
 
 unfoldable pub trueSunAt : Day → ℕ
 trueSunAt d = trueSun (longitudeAt (bodyNumber Sun) d)
 
-unfoldable pub trueMoonAt : Day → ℕ
-trueMoonAt d = trueMoon (longitudeAt (bodyNumber Moon) d) (longitudeAt (bodyNumber MoonApogee) d)
+-- with its own equation alone
+abbrev pub moonAloneAt : Day → ℕ
+moonAloneAt d = moonAlone (longitudeAt (bodyNumber MoonApogee) d) (longitudeAt (bodyNumber Moon) d)
 
-unfoldable pub tithiAt : Day → ℕ
-tithiAt d = tithi (trueSunAt d) (trueMoonAt d)
+-- in the edition e
+unfoldable pub trueMoonAt : ℕ → Day → ℕ
+trueMoonAt e d = trueMoon e (longitudeAt (bodyNumber Sun) d) (longitudeAt (bodyNumber MoonApogee) d) (longitudeAt (bodyNumber Moon) d)
 
-unfoldable pub nakshatraAt : Day → ℕ
-nakshatraAt d = nakshatra (trueMoonAt d)
+unfoldable pub tithiAt : ℕ → Day → ℕ
+tithiAt e d = tithi (trueSunAt d) (trueMoonAt e d)
 
-unfoldable pub yogaAt : Day → ℕ
-yogaAt d = yoga (trueSunAt d) (trueMoonAt d)
+unfoldable pub nakshatraAt : ℕ → Day → ℕ
+nakshatraAt e d = nakshatra (trueMoonAt e d)
 
-unfoldable pub karanaAt : Day → ℕ
-karanaAt d = karana (trueSunAt d) (trueMoonAt d)
+unfoldable pub yogaAt : ℕ → Day → ℕ
+yogaAt e d = yoga (trueSunAt d) (trueMoonAt e d)
 
--- all of them, or refusal 2 with all zeros
-unfoldable pub panchangaOf : Day → Panchanga
-panchangaOf d =
-    cond (inRange d)
-    (record { refusal = accepted; sun = trueSunAt d; moon = trueMoonAt d; tithi = tithiAt d; nakshatra = nakshatraAt d; yoga = yogaAt d; karana = karanaAt d })
-    (record { refusal = outOfRange; sun = 0; moon = 0; tithi = 0; nakshatra = 0; yoga = 0; karana = 0 })
+unfoldable pub karanaAt : ℕ → Day → ℕ
+karanaAt e d = karana (trueSunAt d) (trueMoonAt e d)
+
+abbrev pub noPanchanga : ℕ → Panchanga
+noPanchanga refusal = record { refusal = refusal; sun = 0; moon = 0; tithi = 0; nakshatra = 0; yoga = 0; karana = 0 }
+
+-- all of them; refusal 14 for another edition, then 2, with all zeros
+unfoldable pub panchangaOf : ℕ → Day → Panchanga
+panchangaOf e d =
+    cond (isEdition e)
+    (cond (inRange d)
+    (record { refusal = accepted; sun = trueSunAt d; moon = trueMoonAt e d; tithi = tithiAt e d; nakshatra = nakshatraAt e d; yoga = yogaAt e d; karana = karanaAt e d })
+    (noPanchanga outOfRange))
+    (noPanchanga badEdition)
+
+-- a number of a day in an edition; refusal 14 for another edition, then 2
+unfoldable pub inEdition : (ℕ → Day → ℕ) → ℕ → Day → NumberAnswer
+inEdition f e d = cond (isEdition e) (onDay (f e) d) (noNumber badEdition)
 
 abbrev pub trueSunOf : Day → NumberAnswer
 trueSunOf d = onDay trueSunAt d
 
-abbrev pub trueMoonOf : Day → NumberAnswer
-trueMoonOf d = onDay trueMoonAt d
+abbrev pub trueMoonOf : ℕ → Day → NumberAnswer
+trueMoonOf e d = inEdition trueMoonAt e d
 
-abbrev pub tithiOf : Day → NumberAnswer
-tithiOf d = onDay tithiAt d
+abbrev pub tithiOf : ℕ → Day → NumberAnswer
+tithiOf e d = inEdition tithiAt e d
 
-abbrev pub nakshatraOf : Day → NumberAnswer
-nakshatraOf d = onDay nakshatraAt d
+abbrev pub nakshatraOf : ℕ → Day → NumberAnswer
+nakshatraOf e d = inEdition nakshatraAt e d
 
-abbrev pub yogaOf : Day → NumberAnswer
-yogaOf d = onDay yogaAt d
+abbrev pub yogaOf : ℕ → Day → NumberAnswer
+yogaOf e d = inEdition yogaAt e d
 
-abbrev pub karanaOf : Day → NumberAnswer
-karanaOf d = onDay karanaAt d
+abbrev pub karanaOf : ℕ → Day → NumberAnswer
+karanaOf e d = inEdition karanaAt e d

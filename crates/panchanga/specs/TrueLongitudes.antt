@@ -1,8 +1,8 @@
--- The true Sun and Moon of the mean ones: the mean longitude with its equation. The true longitudes are paper 01's true places.
+-- The true Sun and Moon of the mean ones: the mean longitude with its equation, and the Moon's by two editions. The true longitudes are paper 01's true places.
 -- Assumes nothing.
-use mathlib.Core.Bool.{cond}
+use mathlib.Core.Bool.{Bool, cond, _||_}
 use Prim.Native.Nat.{ℕ, _*_, _-_, _/_}
-use lib.Dec.{leb}
+use lib.Dec.{leb, eqb}
 use lib.IntN.{ℤ, pos, negℤ, _+ℤ_}
 use Rattle.integers.specs.Integers.{reduced}
 use Rattle.longitudes.specs.Longitudes.{circle, differenceOf}
@@ -31,9 +31,43 @@ corrected mean x size = reduced (pos mean +ℤ signed x size) circle
 unfoldable pub trueLongitude : ℕ → ℕ → ℕ → ℕ → ℕ
 trueLongitude scale divisor apogee mean = let x : ℕ = differenceOf apogee mean in corrected mean x (equation scale divisor x)
 
--- the Sun's apogee is fixed
-abbrev pub trueSun : ℕ → ℕ
-trueSun mean = trueLongitude 32400 538526880000 280800 mean
+-- the numbers of the Sun's equation, and its apogee, which is fixed
+abbrev pub sunScale : ℕ
+sunScale = 32400
 
-abbrev pub trueMoon : ℕ → ℕ → ℕ
-trueMoon mean apogee = trueLongitude 72000 522547200000 apogee mean
+abbrev pub sunDivisor : ℕ
+sunDivisor = 538526880000
+
+abbrev pub sunApogee : ℕ
+sunApogee = 280800
+
+abbrev pub trueSun : ℕ → ℕ
+trueSun mean = trueLongitude sunScale sunDivisor sunApogee mean
+
+-- the Sun's anomaly and its equation
+abbrev pub sunAnomaly : ℕ → ℕ
+sunAnomaly mean = differenceOf sunApogee mean
+
+abbrev pub sunEquation : ℕ → ℕ
+sunEquation mean = equation sunScale sunDivisor (sunAnomaly mean)
+
+-- the editions: paper 01's rule, and paper 02's second one
+abbrev pub firstEdition : ℕ
+firstEdition = 1
+
+abbrev pub secondEdition : ℕ
+secondEdition = 2
+
+unfoldable pub isEdition : ℕ → Bool
+isEdition e = eqb e firstEdition || eqb e secondEdition
+
+-- the Moon with its own equation
+abbrev pub moonAlone : ℕ → ℕ → ℕ
+moonAlone apogee mean = trueLongitude 72000 522547200000 apogee mean
+
+-- and in the second edition after it a twenty-seventh of the Sun's equation, rounded down, with the Sun's sign
+unfoldable pub trueMoon : ℕ → ℕ → ℕ → ℕ → ℕ
+trueMoon edition sun apogee mean =
+    cond (eqb edition secondEdition)
+    (corrected (moonAlone apogee mean) (sunAnomaly sun) (sunEquation sun / 27))
+    (moonAlone apogee mean)

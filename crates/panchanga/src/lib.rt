@@ -1,4 +1,4 @@
-// The true Sun and Moon, and the panchanga elements of a day: paper 01's limbs.
+// The true Sun and Moon, and the panchanga elements of a day: paper 01's limbs. What hangs on the Moon is of an edition, paper 01's rule or paper 02's second one.
 use days::Day;
 use days::NumberAnswer;
 use days::refusal;
@@ -6,13 +6,14 @@ use longitudes::Body;
 use longitudes::CIRCLE;
 ghost use mathlib.Core.Path.{_≡_};
 ghost use mathlib.Core.Bool.{true};
-ghost use Prim.Native.Nat.{_<_, _≤_};
+ghost use Prim.Native.Nat.{_/_, _<_, _≤_};
 ghost use Rattle.days.specs.Days.{inRange};
 ghost use Rattle.longitudes.specs.Longitudes.{longitudeAt};
 ghost use Rattle.longitudes.specs.Answers.{bodyNumber};
-ghost use Rattle.panchanga.specs.TrueLongitudes.{bhuja, bhujaProduct, equation, corrected, trueLongitude};
+ghost use Rattle.panchanga.specs.TrueLongitudes.{bhuja, bhujaProduct, equation, corrected, trueLongitude, sunAnomaly, sunEquation, isEdition};
 ghost use Rattle.panchanga.specs.Elements.{tithi, nakshatra, yoga, karana, karanaAfter};
-ghost use Rattle.panchanga.specs.OnDays.{trueSunAt, trueMoonAt, trueSunOf, trueMoonOf, tithiOf, nakshatraOf, yogaOf, karanaOf, panchangaOf};
+ghost use Rattle.panchanga.specs.OnDays.{trueSunAt, moonAloneAt, trueMoonAt, trueSunOf, trueMoonOf, tithiOf, nakshatraOf, yogaOf, karanaOf, noPanchanga, panchangaOf};
+ghost use Rattle.panchanga.specs.Refusal.{refusalFor};
 
 // Sun and Moon are true longitudes; a refusal has all zeros.
 pub struct Panchanga {
@@ -35,6 +36,25 @@ const NAKSHATRA: u32 = CIRCLE / 27;
 const HALF_TITHI: u32 = CIRCLE / 60;
 
 const SUN_APOGEE: u32 = 280800;
+
+// The numbers of the Sun's equation.
+const SUN_SCALE: u64 = 32400;
+
+const SUN_DIVISOR: u64 = 538526880000;
+
+// Paper 02's editions.
+pub const FIRST_EDITION: u32 = 1;
+
+pub const SECOND_EDITION: u32 = 2;
+
+pub fn is_edition(number: u32) -> bool
+    ensures { λ r. ⌜ r ≡ isEdition number ⌝ }
+{
+    if number == FIRST_EDITION {
+        return true;
+    }
+    number == SECOND_EDITION
+}
 
 // An anomaly less the half circle, where it is past it. Q is the same for s and 648000 − s, so the quarters need not be told apart.
 fn in_half(anomaly: u32) -> u32
@@ -93,16 +113,38 @@ fn sun_on(day: Day) -> u32
     ensures { λ r. ⌜ (r ≡ trueSunAt day) × (r < 1296000) ⌝ }
 {
     let mean = mean_on(Body::Sun, day);
-    true_longitude(32400, 538526880000, SUN_APOGEE, mean)
+    true_longitude(SUN_SCALE, SUN_DIVISOR, SUN_APOGEE, mean)
 }
 
-fn moon_on(day: Day) -> u32
+// The Moon with a twenty-seventh of the Sun's equation, by the mean Sun.
+fn with_sun_share(moon: u32, sun: u32) -> u32
+    requires { ⌜ (moon < 1296000) × (sun < 1296000) ⌝ }
+    ensures { λ r. ⌜ (r ≡ corrected moon (sunAnomaly sun) (sunEquation sun / 27)) × (r < 1296000) ⌝ }
+{
+    let anomaly = longitudes::difference(SUN_APOGEE, sun);
+    let size = equation_of(SUN_SCALE, SUN_DIVISOR, anomaly);
+    correct(moon, anomaly, size / 27)
+}
+
+fn moon_alone_on(day: Day) -> u32
     requires { ⌜ inRange day ≡ true ⌝ }
-    ensures { λ r. ⌜ (r ≡ trueMoonAt day) × (r < 1296000) ⌝ }
+    ensures { λ r. ⌜ (r ≡ moonAloneAt day) × (r < 1296000) ⌝ }
 {
     let mean = mean_on(Body::Moon, day);
     let apogee = mean_on(Body::MoonApogee, day);
     true_longitude(72000, 522547200000, apogee, mean)
+}
+
+// An edition's Moon, of the Moon with its own equation. (That comes as a parameter, so that the compiler lays its reckoning open in each call and leaves this out, which edition 1 does not need.)
+fn moon_on(edition: u32, moon: u32, day: Day) -> u32
+    requires { ⌜ (inRange day ≡ true) × ((moon ≡ moonAloneAt day) × (moon < 1296000)) ⌝ }
+    ensures { λ r. ⌜ (r ≡ trueMoonAt edition day) × (r < 1296000) ⌝ }
+{
+    if edition != SECOND_EDITION {
+        return moon;
+    }
+    let sun = mean_on(Body::Sun, day);
+    with_sun_share(moon, sun)
 }
 
 fn tithi_of(sun: u32, moon: u32) -> u32
@@ -143,35 +185,55 @@ fn karana_of(sun: u32, moon: u32) -> u32
     karana_after(longitudes::difference(moon, sun) / HALF_TITHI)
 }
 
-pub fn of_day(day: Day) -> Panchanga
-    ensures { λ r. ⌜ r ≡ panchangaOf day ⌝ }
+// The refusal of a call for an edition and a day, or 0.
+fn refusal_for(edition: u32, day: Day) -> u32
+    ensures { λ r. ⌜ r ≡ refusalFor edition day ⌝ }
 {
+    if !is_edition(edition) {
+        return refusal::BAD_EDITION;
+    }
     if day.in_range() {
-        let sun = sun_on(day);
-        let moon = moon_on(day);
-        let tithi = tithi_of(sun, moon);
-        let nakshatra = nakshatra_of(moon);
-        let yoga = yoga_of(sun, moon);
-        let karana = karana_of(sun, moon);
-        Panchanga {
-            refusal: refusal::NONE,
-            sun,
-            moon,
-            tithi,
-            nakshatra,
-            yoga,
-            karana,
-        }
+        refusal::NONE
     } else {
-        Panchanga {
-            refusal: refusal::OUT_OF_RANGE,
-            sun: 0,
-            moon: 0,
-            tithi: 0,
-            nakshatra: 0,
-            yoga: 0,
-            karana: 0,
-        }
+        refusal::OUT_OF_RANGE
+    }
+}
+
+fn refused(refusal: u32) -> Panchanga
+    ensures { λ r. ⌜ r ≡ noPanchanga refusal ⌝ }
+{
+    Panchanga {
+        refusal,
+        sun: 0,
+        moon: 0,
+        tithi: 0,
+        nakshatra: 0,
+        yoga: 0,
+        karana: 0,
+    }
+}
+
+pub fn of_day(edition: u32, day: Day) -> Panchanga
+    ensures { λ r. ⌜ r ≡ panchangaOf edition day ⌝ }
+{
+    let refusal = refusal_for(edition, day);
+    if refusal != refusal::NONE {
+        return refused(refusal);
+    }
+    let sun = sun_on(day);
+    let moon = moon_on(edition, moon_alone_on(day), day);
+    let tithi = tithi_of(sun, moon);
+    let nakshatra = nakshatra_of(moon);
+    let yoga = yoga_of(sun, moon);
+    let karana = karana_of(sun, moon);
+    Panchanga {
+        refusal: refusal::NONE,
+        sun,
+        moon,
+        tithi,
+        nakshatra,
+        yoga,
+        karana,
     }
 }
 
@@ -185,52 +247,52 @@ pub fn true_sun(day: Day) -> NumberAnswer
     }
 }
 
-pub fn true_moon(day: Day) -> NumberAnswer
-    ensures { λ r. ⌜ r ≡ trueMoonOf day ⌝ }
+pub fn true_moon(edition: u32, day: Day) -> NumberAnswer
+    ensures { λ r. ⌜ r ≡ trueMoonOf edition day ⌝ }
 {
-    if day.in_range() {
-        NumberAnswer::accepted(moon_on(day))
-    } else {
-        NumberAnswer::OUT_OF_RANGE
+    let refusal = refusal_for(edition, day);
+    if refusal != refusal::NONE {
+        return NumberAnswer::refused(refusal);
     }
+    NumberAnswer::accepted(moon_on(edition, moon_alone_on(day), day))
 }
 
-pub fn tithi(day: Day) -> NumberAnswer
-    ensures { λ r. ⌜ r ≡ tithiOf day ⌝ }
+pub fn tithi(edition: u32, day: Day) -> NumberAnswer
+    ensures { λ r. ⌜ r ≡ tithiOf edition day ⌝ }
 {
-    if day.in_range() {
-        NumberAnswer::accepted(tithi_of(sun_on(day), moon_on(day)))
-    } else {
-        NumberAnswer::OUT_OF_RANGE
+    let refusal = refusal_for(edition, day);
+    if refusal != refusal::NONE {
+        return NumberAnswer::refused(refusal);
     }
+    NumberAnswer::accepted(tithi_of(sun_on(day), moon_on(edition, moon_alone_on(day), day)))
 }
 
-pub fn nakshatra(day: Day) -> NumberAnswer
-    ensures { λ r. ⌜ r ≡ nakshatraOf day ⌝ }
+pub fn nakshatra(edition: u32, day: Day) -> NumberAnswer
+    ensures { λ r. ⌜ r ≡ nakshatraOf edition day ⌝ }
 {
-    if day.in_range() {
-        NumberAnswer::accepted(nakshatra_of(moon_on(day)))
-    } else {
-        NumberAnswer::OUT_OF_RANGE
+    let refusal = refusal_for(edition, day);
+    if refusal != refusal::NONE {
+        return NumberAnswer::refused(refusal);
     }
+    NumberAnswer::accepted(nakshatra_of(moon_on(edition, moon_alone_on(day), day)))
 }
 
-pub fn yoga(day: Day) -> NumberAnswer
-    ensures { λ r. ⌜ r ≡ yogaOf day ⌝ }
+pub fn yoga(edition: u32, day: Day) -> NumberAnswer
+    ensures { λ r. ⌜ r ≡ yogaOf edition day ⌝ }
 {
-    if day.in_range() {
-        NumberAnswer::accepted(yoga_of(sun_on(day), moon_on(day)))
-    } else {
-        NumberAnswer::OUT_OF_RANGE
+    let refusal = refusal_for(edition, day);
+    if refusal != refusal::NONE {
+        return NumberAnswer::refused(refusal);
     }
+    NumberAnswer::accepted(yoga_of(sun_on(day), moon_on(edition, moon_alone_on(day), day)))
 }
 
-pub fn karana(day: Day) -> NumberAnswer
-    ensures { λ r. ⌜ r ≡ karanaOf day ⌝ }
+pub fn karana(edition: u32, day: Day) -> NumberAnswer
+    ensures { λ r. ⌜ r ≡ karanaOf edition day ⌝ }
 {
-    if day.in_range() {
-        NumberAnswer::accepted(karana_of(sun_on(day), moon_on(day)))
-    } else {
-        NumberAnswer::OUT_OF_RANGE
+    let refusal = refusal_for(edition, day);
+    if refusal != refusal::NONE {
+        return NumberAnswer::refused(refusal);
     }
+    NumberAnswer::accepted(karana_of(sun_on(day), moon_on(edition, moon_alone_on(day), day)))
 }

@@ -78,8 +78,8 @@ fn show_remainder(answer: MeanLongitude) {
     io::print_decimal(STDOUT_FILENO, answer.divisor as u64);
 }
 
-fn show_panchanga(day: Day) {
-    let all = panchanga::of_day(day);
+fn show_panchanga(edition: u32, day: Day) {
+    let all = panchanga::of_day(edition, day);
     show(all.refusal);
     show(all.sun);
     show(all.moon);
@@ -87,6 +87,22 @@ fn show_panchanga(day: Day) {
     show(all.nakshatra);
     show(all.yoga);
     show(all.karana);
+}
+
+fn show_elements(edition: u32, day: Day) {
+    show_single(panchanga::true_moon(edition, day));
+    show_single(panchanga::tithi(edition, day));
+    show_single(panchanga::nakshatra(edition, day));
+    show_single(panchanga::yoga(edition, day));
+    show_single(panchanga::karana(edition, day));
+}
+
+// The second edition, and one of the numbers that are none.
+fn show_editions(day: Day) {
+    show_panchanga(panchanga::SECOND_EDITION, day);
+    show_elements(panchanga::SECOND_EDITION, day);
+    show_panchanga(0, day);
+    show_elements(3, day);
 }
 
 fn show_singles(day: Day) {
@@ -100,11 +116,7 @@ fn show_singles(day: Day) {
     show_seconds(longitudes::mean_longitude(Body::VenusAnomaly, day));
     show_seconds(longitudes::mean_longitude(Body::Saturn, day));
     show_single(panchanga::true_sun(day));
-    show_single(panchanga::true_moon(day));
-    show_single(panchanga::tithi(day));
-    show_single(panchanga::nakshatra(day));
-    show_single(panchanga::yoga(day));
-    show_single(panchanga::karana(day));
+    show_elements(panchanga::FIRST_EDITION, day);
 }
 
 fn show_remainders(day: Day) {
@@ -141,10 +153,11 @@ fn show_day(number: u32) {
     };
     io::print_decimal(STDOUT_FILENO, number as u64);
     show_longitudes(day);
-    show_panchanga(day);
+    show_panchanga(panchanga::FIRST_EDITION, day);
     show_singles(day);
     show_remainders(day);
     show_thirds(day);
+    show_editions(day);
     io::write_all(STDOUT_FILENO, b"\n");
 }
 

@@ -2,7 +2,6 @@
 use days::Day;
 use days::refusal;
 use text::Line;
-ghost use mathlib.Core.Path.{_≡_};
 ghost use Prim.Native.Nat.{_<_};
 ghost use Rattle.text.specs.Lines.{Holds};
 ghost use Rattle.plate.specs.Plates.{plateHeading, bodyLine, lineFor};

@@ -7,6 +7,7 @@ use native.Mathlib.Omega.{arith}
 use lib.Dec.{leb}
 use borrow.Author.Tests.{leb-true, le-leb}
 use Rattle.days.specs.Days.{lastDay}
+use Rattle.panchanga.specs.TrueLongitudes.{isEdition}
 use Rattle.query.specs.declared.Query.{Query}
 use Rattle.query.specs.Conditions.{askedInRange, arcInRange, arcsInRange, conditionsInRange}
 use Rattle.query.specs.Query.{sunArc, refusalOf}
@@ -19,8 +20,9 @@ and-left : (a b : Bool) → (a && b) ≡ true → a ≡ true
 and-left true b e = refl
 and-left false b e = e
 
--- a query that is not refused: its days and the Sun's arc are in range
+-- a query that is not refused: its edition, its days and the Sun's arc are in range
 pub record Accepted (q : Query) : Type 0 where
+  pub edition : isEdition (q .edition) ≡ true
   pub first : q .first ≤ q .last
   pub last : q .last ≤ lastDay
   pub sun : arcInRange (sunArc q) ≡ true
@@ -35,21 +37,43 @@ sun-of q e =
 
 pub accepted-by : (q : Query) → refusalOf q ≡ 0 → Accepted q
 unfolding refusalOf
-accepted-by q e = go (leb (q .first) lastDay) (leb (q .last) lastDay) (leb (q .first) (q .last)) (conditionsInRange q) refl refl refl e
+accepted-by q e = go (isEdition (q .edition)) (leb (q .first) lastDay) (leb (q .last) lastDay) (leb (q .first) (q .last)) (conditionsInRange q) refl refl refl refl e
   where
     go :
-        (a b o g : Bool) →
+        (t a b o g : Bool) →
+        isEdition (q .edition) ≡ t →
         leb (q .last) lastDay ≡ b →
         leb (q .first) (q .last) ≡ o →
         conditionsInRange q ≡ g →
-        _≡_ {A = ℕ} (cond (a && b) (cond o (cond g 0 6) 5) 2) 0 →
+        _≡_ {A = ℕ} (cond t (cond (a && b) (cond o (cond g 0 6) 5) 2) 14) 0 →
         Accepted q
-    go true true true true h k c e = record { first = leb-true _ _ k; last = leb-true _ _ h; sun = sun-of q c; conditions = c }
-    go true true true false h k c e = absurd (omega arith)
-    go true true false g h k c e = absurd (omega arith)
-    go true false o g h k c e = absurd (omega arith)
-    go false b o g h k c e = absurd (omega arith)
+    go true true true true true d h k c e = record { edition = d; first = leb-true _ _ k; last = leb-true _ _ h; sun = sun-of q c; conditions = c }
+    go true true true true false d h k c e = absurd (omega arith)
+    go true true true false g d h k c e = absurd (omega arith)
+    go true true false o g d h k c e = absurd (omega arith)
+    go true false b o g d h k c e = absurd (omega arith)
+    go false a b o g d h k c e = absurd (omega arith)
 
-pub accepts : (q : Query) → q .first ≤ q .last → q .last ≤ lastDay → conditionsInRange q ≡ true → refusalOf q ≡ 0
+pub accepts : (q : Query) → isEdition (q .edition) ≡ true → q .first ≤ q .last → q .last ≤ lastDay → conditionsInRange q ≡ true → refusalOf q ≡ 0
 unfolding refusalOf
-accepts q h k c = rw (le-leb (q .first) lastDay (omega arith), le-leb _ _ k, le-leb _ _ h, c)
+accepts q d h k c = rw (d, le-leb (q .first) lastDay (omega arith), le-leb _ _ k, le-leb _ _ h, c)
+
+-- 14 is the edition's refusal, and no other is
+pub edition-refused : (q : Query) → refusalOf q ≡ 14 → isEdition (q .edition) ≡ false
+unfolding refusalOf
+edition-refused q e = go (isEdition (q .edition)) (leb (q .first) lastDay && leb (q .last) lastDay) (leb (q .first) (q .last)) (conditionsInRange q) refl e
+  where
+    go : (t a o g : Bool) → isEdition (q .edition) ≡ t → _≡_ {A = ℕ} (cond t (cond a (cond o (cond g 0 6) 5) 2) 14) 14 → isEdition (q .edition) ≡ false
+    go false a o g d e = d
+    go true true true true d e = absurd (omega arith)
+    go true true true false d e = absurd (omega arith)
+    go true true false g d e = absurd (omega arith)
+    go true false o g d e = absurd (omega arith)
+
+pub edition-accepted : (q : Query) → (refusalOf q ≡ 14 → ⊥) → isEdition (q .edition) ≡ true
+unfolding refusalOf
+edition-accepted q n = go (isEdition (q .edition)) refl n
+  where
+    go : (t : Bool) → isEdition (q .edition) ≡ t → (refusalOf q ≡ 14 → ⊥) → isEdition (q .edition) ≡ true
+    go true d n = d
+    go false d n = absurd (n (rw d))

@@ -11,7 +11,9 @@ use Rattle.days.specs.declared.Day.{Day}
 use Rattle.days.specs.Days.{lastDay, inRange, pairAt, weekdayOn}
 use Rattle.days.proofs.Laws.{pair-in-range}
 use Rattle.panchanga.specs.declared.Panchanga.{Panchanga}
+use Rattle.panchanga.specs.TrueLongitudes.{isEdition}
 use Rattle.panchanga.specs.OnDays.{tithiAt, nakshatraAt, yogaAt, panchangaOf}
+use Rattle.panchanga.proofs.Answers.{elements-given}
 use Rattle.query.specs.declared.Arc.{Arc}
 use Rattle.query.specs.declared.Query.{Query}
 use Rattle.query.specs.Conditions.{eachOther, someOther, eachBody, meets, inArc, arcAt, arcInRange, arcsInRange, arcMet, arcsMet, otherArcsMet, elementsMet, othersMet, otherArcsGiven, asksMore}
@@ -102,42 +104,43 @@ module _ (arcs : List Arc) (d : Day) where
   last-arc-met found a b c e f g h k = rw (a, b, c, e, f, g, h, k)
 
 -- what is handed back of the elements of a day in range
-pub record ElementsOn (d : Day) (found : Panchanga) : Type 0 where
-  pub tithi : found .tithi ≡ tithiAt d
-  pub nakshatra : found .nakshatra ≡ nakshatraAt d
-  pub yoga : found .yoga ≡ yogaAt d
+pub record ElementsOn (edition : ℕ) (d : Day) (found : Panchanga) : Type 0 where
+  pub tithi : found .tithi ≡ tithiAt edition d
+  pub nakshatra : found .nakshatra ≡ nakshatraAt edition d
+  pub yoga : found .yoga ≡ yogaAt edition d
 
-pub elements-on : (d : Day) (found : Panchanga) → inRange d ≡ true → found ≡ panchangaOf d → ElementsOn d found
-unfolding panchangaOf
-elements-on d found r e = record { tithi = rw (e, r); nakshatra = rw (e, r); yoga = rw (e, r) }
+pub elements-on : (edition : ℕ) (d : Day) (found : Panchanga) → (inRange d ≡ true) × (isEdition edition ≡ true) → found ≡ panchangaOf edition d → ElementsOn edition d found
+elements-on edition d found r e =
+    let given = e ∙ elements-given edition d (record { edition = r .1; range = r .0 }) in
+    record { tithi = rw given; nakshatra = rw given; yoga = rw given }
 
 module _ (q : Query) (d : Day) where
-  pub only-nakshatra : (found : Bool) → q .tithi .given ≡ false → q .yoga .given ≡ false → found ≡ meets (q .nakshatra) (nakshatraAt d) → found ≡ elementsMet q d
+  pub only-nakshatra : (found : Bool) → q .tithi .given ≡ false → q .yoga .given ≡ false → found ≡ meets (q .nakshatra) (nakshatraAt (q .edition) d) → found ≡ elementsMet q d
   unfolding elementsMet meets
-  only-nakshatra found t y e = e ∙ rw (t, y) (sym (and-true (meets (q .nakshatra) (nakshatraAt d))))
+  only-nakshatra found t y e = e ∙ rw (t, y) (sym (and-true (meets (q .nakshatra) (nakshatraAt (q .edition) d))))
 
   -- the elements in turn: the first that is not met decides, else the last
-  pub tithi-not-met : meets (q .tithi) (tithiAt d) ≡ false → false ≡ elementsMet q d
+  pub tithi-not-met : meets (q .tithi) (tithiAt (q .edition) d) ≡ false → false ≡ elementsMet q d
   unfolding elementsMet
   tithi-not-met e = rw e
 
-  pub nakshatra-not-met : meets (q .tithi) (tithiAt d) ≡ true → meets (q .nakshatra) (nakshatraAt d) ≡ false → false ≡ elementsMet q d
+  pub nakshatra-not-met : meets (q .tithi) (tithiAt (q .edition) d) ≡ true → meets (q .nakshatra) (nakshatraAt (q .edition) d) ≡ false → false ≡ elementsMet q d
   unfolding elementsMet
   nakshatra-not-met e f = rw (e, f)
 
-  pub yoga-decides : (found : Bool) → meets (q .tithi) (tithiAt d) ≡ true → meets (q .nakshatra) (nakshatraAt d) ≡ true → found ≡ meets (q .yoga) (yogaAt d) → found ≡ elementsMet q d
+  pub yoga-decides : (found : Bool) → meets (q .tithi) (tithiAt (q .edition) d) ≡ true → meets (q .nakshatra) (nakshatraAt (q .edition) d) ≡ true → found ≡ meets (q .yoga) (yogaAt (q .edition) d) → found ≡ elementsMet q d
   unfolding elementsMet
   yoga-decides found e f g = g ∙ rw (e, f)
 
   -- where nothing more is asked, nothing more is to be met
-  pub no-more : asksMore q ≡ false → inRange d ≡ true → othersMet q d ≡ true
+  pub no-more : isEdition (q .edition) ≡ true → asksMore q ≡ false → inRange d ≡ true → othersMet q d ≡ true
   unfolding asksMore otherArcsGiven othersMet otherArcsMet elementsMet meets inArc
-  no-more e r =
+  no-more edition e r =
       let tithi = neither (q .tithi .given) (q .nakshatra .given || (q .yoga .given || otherArcsGiven (q .arcs))) e in
       let nakshatra = neither (q .nakshatra .given) (q .yoga .given || otherArcsGiven (q .arcs)) (tithi .1) in
       let yoga = neither (q .yoga .given) (otherArcsGiven (q .arcs)) (nakshatra .1) in
       let arc = all-false (λ (body : ℕ). arcAt (q .arcs) body .given) (yoga .1) in
-      rw (r, tithi .0, nakshatra .0, yoga .0, arc 1 (lit< tt) (lit< tt), arc 2 (lit< tt) (lit< tt), arc 3 (lit< tt) (lit< tt), arc 4 (lit< tt) (lit< tt), arc 5 (lit< tt) (lit< tt), arc 6 (lit< tt) (lit< tt), arc 7 (lit< tt) (lit< tt), arc 8 (lit< tt) (lit< tt))
+      rw (edition, r, tithi .0, nakshatra .0, yoga .0, arc 1 (lit< tt) (lit< tt), arc 2 (lit< tt) (lit< tt), arc 3 (lit< tt) (lit< tt), arc 4 (lit< tt) (lit< tt), arc 5 (lit< tt) (lit< tt), arc 6 (lit< tt) (lit< tt), arc 7 (lit< tt) (lit< tt), arc 8 (lit< tt) (lit< tt))
 
 -- the conditions of day n, in the order in which they are tested
 module _ (q : Query) (n : ℕ) where
@@ -149,6 +152,6 @@ module _ (q : Query) (n : ℕ) where
   unfolding conditionsMet
   weekday-not-met e = rw e (and-false (arcsMet (q .arcs) (pairAt n)))
 
-  pub others-decide : n ≤ lastDay → arcMet (q .arcs) (pairAt n) 0 ≡ true → meets (q .weekday) (weekdayOn n) ≡ true → conditionsMet q n ≡ othersMet q (pairAt n)
+  pub others-decide : isEdition (q .edition) ≡ true → n ≤ lastDay → arcMet (q .arcs) (pairAt n) 0 ≡ true → meets (q .weekday) (weekdayOn n) ≡ true → conditionsMet q n ≡ othersMet q (pairAt n)
   unfolding conditionsMet arcsMet othersMet otherArcsMet
-  others-decide h e w = rw (e, w, pair-in-range n h)
+  others-decide edition h e w = rw (e, w, edition, pair-in-range n h)

@@ -8,6 +8,7 @@ use lib.ListN.{getD}
 use Rattle.days.specs.declared.Day.{Day}
 use Rattle.days.specs.Days.{inRange}
 use Rattle.longitudes.specs.Longitudes.{circle, longitudeAt, differenceOf}
+use Rattle.panchanga.specs.TrueLongitudes.{isEdition}
 use Rattle.panchanga.specs.OnDays.{tithiAt, nakshatraAt, yogaAt}
 use Rattle.query.specs.declared.Asked.{Asked}
 use Rattle.query.specs.declared.Arc.{Arc}
@@ -52,12 +53,15 @@ arcsMet arcs d = eachBody (arcMet arcs d)
 unfoldable pub otherArcsMet : List Arc → Day → Bool
 otherArcsMet arcs d = eachOther (arcMet arcs d)
 
+-- in the query's edition
 unfoldable pub elementsMet : Query → Day → Bool
-elementsMet q d = meets (q .tithi) (tithiAt d) && (meets (q .nakshatra) (nakshatraAt d) && meets (q .yoga) (yogaAt d))
+elementsMet q d =
+    meets (q .tithi) (tithiAt (q .edition) d)
+    && (meets (q .nakshatra) (nakshatraAt (q .edition) d) && meets (q .yoga) (yogaAt (q .edition) d))
 
--- a day meets all conditions beside the Sun's arc and the weekday; a pair out of range is no day
+-- a day meets all conditions beside the Sun's arc and the weekday; a pair out of range is no day, and a number that is no edition has no elements
 unfoldable pub othersMet : Query → Day → Bool
-othersMet q d = inRange d && (otherArcsMet (q .arcs) d && elementsMet q d)
+othersMet q d = isEdition (q .edition) && (inRange d && (otherArcsMet (q .arcs) d && elementsMet q d))
 
 -- an arc of another body than the Sun is given
 unfoldable pub otherArcsGiven : List Arc → Bool

@@ -3,8 +3,9 @@
 use mathlib.Core.Bool.{Bool, cond, _&&_}
 use Prim.Native.Nat.{ℕ}
 use lib.Dec.{leb}
-use Rattle.days.specs.Refusals.{accepted, outOfRange, lastBeforeFirst, badCondition}
+use Rattle.days.specs.Refusals.{accepted, outOfRange, lastBeforeFirst, badCondition, badEdition}
 use Rattle.days.specs.Days.{lastDay, weekdayOn, pairAt}
+use Rattle.panchanga.specs.TrueLongitudes.{isEdition}
 use Rattle.query.specs.declared.Arc.{Arc}
 use Rattle.query.specs.declared.Query.{Query}
 use Rattle.query.specs.Conditions.{meets, arcAt, arcsMet, elementsMet, conditionsInRange}
@@ -25,9 +26,11 @@ inSpan q n = leb (q .first) n && leb n (q .last)
 unfoldable pub matches : Query → ℕ → Bool
 matches q n = inSpan q n && conditionsMet q n
 
--- why a query is refused whatever list is lent, in paper 01's order, or 0: paper 01's well-formed reading
+-- why a query is refused whatever list is lent, or 0: the edition's 14 first, then in paper 01's order. 0 is paper 01's well-formed reading
 unfoldable pub refusalOf : Query → ℕ
 refusalOf q =
-    cond (leb (q .first) lastDay && leb (q .last) lastDay)
+    cond (isEdition (q .edition))
+    (cond (leb (q .first) lastDay && leb (q .last) lastDay)
     (cond (leb (q .first) (q .last)) (cond (conditionsInRange q) accepted badCondition) lastBeforeFirst)
-    outOfRange
+    outOfRange)
+    badEdition

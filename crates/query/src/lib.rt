@@ -8,6 +8,7 @@ ghost use mathlib.Core.Bool.{true};
 ghost use Rattle.days.specs.Days.{inRange};
 ghost use Rattle.longitudes.specs.Longitudes.{longitudeAt};
 ghost use Rattle.longitudes.specs.Answers.{bodyNumber};
+ghost use Rattle.panchanga.specs.TrueLongitudes.{isEdition};
 ghost use Rattle.panchanga.specs.OnDays.{nakshatraAt};
 ghost use Rattle.query.specs.Conditions.{meets, inArc, askedInRange, arcInRange, arcsInRange, conditionsInRange, otherArcsMet, elementsMet, othersMet, otherArcsGiven, asksMore};
 ghost use Rattle.query.specs.Query.{refusalOf};
@@ -25,10 +26,11 @@ pub struct Arc {
     pub width: u32,
 }
 
-// Paper 01's reading: a first and a last day, both counted, and the conditions; the arcs in the order of the bodies.
+// Paper 01's reading: a first and a last day, both counted, paper 02's edition, by which the elements are reckoned, and the conditions; the arcs in the order of the bodies.
 pub struct Query {
     pub first: u32,
     pub last: u32,
+    pub edition: u32,
     pub weekday: Asked,
     pub tithi: Asked,
     pub nakshatra: Asked,
@@ -127,6 +129,9 @@ impl Query {
     pub fn refusal(self) -> u32
         ensures { λ r. ⌜ r ≡ refusalOf self ⌝ }
     {
+        if !panchanga::is_edition(self.edition) {
+            return refusal::BAD_EDITION;
+        }
         if Day::LAST < self.first {
             return refusal::OUT_OF_RANGE;
         }
@@ -202,7 +207,7 @@ fn other_arcs_met(arcs: [Arc; 9], day: Day) -> bool
 
 // True longitudes take long to reckon: this is done only where an element is asked for, the Sun's only for a tithi or a yoga.
 fn elements_met(query: Query, day: Day) -> bool
-    requires { ⌜ inRange day ≡ true ⌝ }
+    requires { ⌜ (inRange day ≡ true) × (isEdition (query .edition) ≡ true) ⌝ }
     ensures { λ r. ⌜ r ≡ elementsMet query day ⌝ }
 {
     let tithi = query.tithi;
@@ -210,10 +215,10 @@ fn elements_met(query: Query, day: Day) -> bool
     let yoga = query.yoga;
     if !tithi.given {
         if !yoga.given {
-            return nakshatra_met(nakshatra, day);
+            return nakshatra_met(nakshatra, query.edition, day);
         }
     }
-    let found = panchanga::of_day(day);
+    let found = panchanga::of_day(query.edition, day);
     if !tithi.admits(found.tithi) {
         return false;
     }
@@ -223,22 +228,25 @@ fn elements_met(query: Query, day: Day) -> bool
     yoga.admits(found.yoga)
 }
 
-fn nakshatra_met(asked: Asked, day: Day) -> bool
-    requires { ⌜ inRange day ≡ true ⌝ }
-    ensures { λ r. ⌜ r ≡ meets asked (nakshatraAt day) ⌝ }
+fn nakshatra_met(asked: Asked, edition: u32, day: Day) -> bool
+    requires { ⌜ (inRange day ≡ true) × (isEdition edition ≡ true) ⌝ }
+    ensures { λ r. ⌜ r ≡ meets asked (nakshatraAt edition day) ⌝ }
 {
     if asked.given {
-        let found = panchanga::nakshatra(day);
+        let found = panchanga::nakshatra(edition, day);
         found.number == asked.value
     } else {
         true
     }
 }
 
-// Whether a day meets all conditions beside the Sun's arc and the weekday: the other bodies' arcs, then the elements. A pair that is no day meets none.
+// Whether a day meets all conditions beside the Sun's arc and the weekday: the other bodies' arcs, then the elements. A pair that is no day meets none, nor does any day those of a query without an edition.
 pub fn others_met(query: Query, day: Day) -> bool
     ensures { λ r. ⌜ r ≡ othersMet query day ⌝ }
 {
+    if !panchanga::is_edition(query.edition) {
+        return false;
+    }
     if !day.in_range() {
         return false;
     }

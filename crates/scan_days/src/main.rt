@@ -4,6 +4,7 @@ use days::Day;
 use days::refusal;
 use libc::STDOUT_FILENO;
 use longitudes::Body;
+use panchanga::FIRST_EDITION;
 use query::Arc;
 use query::Asked;
 use query::Query;
@@ -20,6 +21,7 @@ fn worked() -> Query {
     Query {
         first: 0,
         last: 729,
+        edition: FIRST_EDITION,
         weekday: Asked::NONE,
         tithi: Asked::NONE,
         nakshatra: Asked::NONE,

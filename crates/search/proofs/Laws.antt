@@ -16,6 +16,7 @@ use Rattle.entries.specs.Entries.{withEntries, capacity, entryAt}
 use Rattle.query.specs.declared.Query.{Query}
 use Rattle.query.specs.Conditions.{arcInRange}
 use Rattle.query.specs.Query.{sunArc, conditionsMet, matches, refusalOf}
+use Rattle.panchanga.specs.TrueLongitudes.{isEdition}
 use Rattle.query.proofs.Accepted.{accepted-by}
 use Rattle.search.specs.Look.{nextDay, notExamined, examinedOf}
 use Rattle.search.specs.Days.{filtered, daysFrom, spanLength, span, matchingDays, visitedFrom, visitedDays}
@@ -134,20 +135,21 @@ matches-listed q x e = go (leb (q .first) x) (leb x (q .last)) refl refl e
 -- the look goes forward: the day that it hands back is later than the day, where it is not refused
 pub next-later : (q : Query) (n : ℕ) → refusalOf q ≡ 0 → n ≤ lastDay → n < examinedOf q n .next
 unfolding examinedOf
-next-later q n e h = rw (le-leb n lastDay h, eq-eqb (refusalOf q) 0 e) (next-after q (accepted-by q e .sun) n)
+next-later q n e h = rw (accepted-by q e .edition, le-leb n lastDay h, eq-eqb (refusalOf q) 0 e) (next-after q (accepted-by q e .sun) n)
 
 pub looked-later : (q : Query) (n : ℕ) → examinedOf q n .refusal ≡ 0 → n < examinedOf q n .next
-looked-later q n r = go (leb n lastDay) (eqb (refusalOf q) 0) refl refl (unfold examinedOf in r)
+looked-later q n r = go (isEdition (q .edition)) (leb n lastDay) (eqb (refusalOf q) 0) refl refl (unfold examinedOf in r)
   where
     go :
-        (h e : Bool) →
+        (t h e : Bool) →
         leb n lastDay ≡ h →
         eqb (refusalOf q) 0 ≡ e →
-        cond h (cond e (record { refusal = 0; matches = matches q n; next = nextDay q n }) (notExamined (refusalOf q))) (notExamined 2) .refusal ≡ 0 →
+        cond t (cond h (cond e (record { refusal = 0; matches = matches q n; next = nextDay q n }) (notExamined (refusalOf q))) (notExamined 2)) (notExamined 14) .refusal ≡ 0 →
         n < examinedOf q n .next
-    go true true h e r = next-later q n (eqb-true _ _ e) (leb-true _ _ h)
-    go true false h e r = absurd (eqb-false _ _ e r)
-    go false e h f r = absurd (omega arith)
+    go true true true h e r = next-later q n (eqb-true _ _ e) (leb-true _ _ h)
+    go true true false h e r = absurd (eqb-false _ _ e r)
+    go true false e h f r = absurd (omega arith)
+    go false d e h f r = absurd (omega arith)
 
 has-at : (k : ℕ) (xs : List ℕ) → k < length xs → Has (getD xs k 0) xs
 unfolding Has

@@ -10,10 +10,11 @@ use Rattle.days.specs.declared.Day.{Day}
 use Rattle.days.specs.Days.{lastDay, pairAt, weekdayOn}
 use Rattle.days.proofs.Laws.{pair-in-range}
 use Rattle.longitudes.specs.Longitudes.{circle}
+use Rattle.panchanga.specs.TrueLongitudes.{isEdition}
 use Rattle.query.specs.declared.Query.{Query}
 use Rattle.query.specs.Query.{sunArc, conditionsMet, inSpan, matches, refusalOf}
 use Rattle.query.specs.Conditions.{meets, othersMet, asksMore}
-use Rattle.query.proofs.Accepted.{accepted-by}
+use Rattle.query.proofs.Accepted.{accepted-by, edition-refused, edition-accepted}
 use Rattle.query.proofs.Conditions.{weekday-not-met, others-decide, no-more}
 use Rattle.search.specs.declared.Examined.{Examined}
 use Rattle.search.specs.Look.{sunInArc, nextDay, notExamined, examinedOf}
@@ -27,6 +28,7 @@ said matches next = record { refusal = 0; matches = matches; next = next }
 
 -- day n, whose pair is d, has the Sun in its arc, or no such arc is given
 pub record Inside (q : Query) (n : ℕ) (d : Day) : Type 0 where
+  pub edition : isEdition (q .edition) ≡ true
   pub low : n ≤ lastDay
   pub pair : d ≡ pairAt n
   pub sun : sunInArc q n ≡ true
@@ -52,10 +54,10 @@ module _ (q : Query) (n : ℕ) where
     by-others : (others : Bool) → not weekday ≡ false → othersMet q d ≡ others → said others (n + 1) ≡ examinedAnyDay q n
     by-others others t e =
         inside others (i .low) (i .sun)
-        (others-decide q n (i .low) (unfold sunInArc in i .sun) (sym w ∙ not-false weekday t) ∙ ap (othersMet q) (sym (i .pair)) ∙ e)
+        (others-decide q n (i .edition) (i .low) (unfold sunInArc in i .sun) (sym w ∙ not-false weekday t) ∙ ap (othersMet q) (sym (i .pair)) ∙ e)
 
     pub by-no-more : (more : Bool) → not weekday ≡ false → more ≡ asksMore q → not more ≡ true → said true (n + 1) ≡ examinedAnyDay q n
-    by-no-more more t e f = by-others true t (no-more q d (sym e ∙ not-true more f) (rw (i .pair) (pair-in-range n (i .low))))
+    by-no-more more t e f = by-others true t (no-more q d (i .edition) (sym e ∙ not-true more f) (rw (i .pair) (pair-in-range n (i .low))))
 
     pub by-more : (others : Bool) → not weekday ≡ false → others ≡ othersMet q d → said others (n + 1) ≡ examinedAnyDay q n
     by-more others t e = by-others others t (sym e)
@@ -71,13 +73,19 @@ module _ (q : Query) (n : ℕ) where
       let f = past-out q n g w in
       rw (any-day h, outside-unmatched q n f, next-out q (accepted-by q e .sun) n f)
 
-  pub refused-day : lastDay < n → notExamined 2 ≡ examinedOf q n
-  unfolding examinedOf
-  refused-day h = rw (lt-leb n lastDay h)
+  -- refused: for the edition, for the day, and for what else the query is refused for
+  module _ (refusal : ℕ) (e : refusal ≡ refusalOf q) where
+    pub refused-edition : refusal ≡ 14 → notExamined 14 ≡ examinedOf q n
+    unfolding examinedOf
+    refused-edition f = rw (edition-refused q (sym e ∙ f))
 
-  pub refused-query : (refusal : ℕ) → n ≤ lastDay → refusal ≡ refusalOf q → (refusal ≡ 0 → ⊥) → notExamined refusal ≡ examinedOf q n
-  unfolding examinedOf
-  refused-query refusal h e z = rw (le-leb n lastDay h, ne-eqb (refusalOf q) 0 (λ k. z (e ∙ k)), e)
+    pub refused-day : (refusal ≡ 14 → ⊥) → lastDay < n → notExamined 2 ≡ examinedOf q n
+    unfolding examinedOf
+    refused-day f h = rw (edition-accepted q (λ k. f (e ∙ k)), lt-leb n lastDay h)
+
+    pub refused-query : (refusal ≡ 14 → ⊥) → n ≤ lastDay → (refusal ≡ 0 → ⊥) → notExamined refusal ≡ examinedOf q n
+    unfolding examinedOf
+    refused-query f h z = rw (edition-accepted q (λ k. f (e ∙ k)), le-leb n lastDay h, ne-eqb (refusalOf q) 0 (λ k. z (e ∙ k)), e)
 
   module _ (e : refusalOf q ≡ 0) where
     in-span-low : inSpan q n ≡ true → n ≤ q .last
@@ -90,7 +98,7 @@ module _ (q : Query) (n : ℕ) where
     -- a day of the span
     pub examined-at : inSpan q n ≡ true → examinedOf q n ≡ said (conditionsMet q n) (nextDay q n)
     unfolding examinedOf matches
-    examined-at s = rw (le-leb n lastDay (omega (arith, in-span-low s, accepted-by q e .last)), eq-eqb (refusalOf q) 0 e, s)
+    examined-at s = rw (accepted-by q e .edition, le-leb n lastDay (omega (arith, in-span-low s, accepted-by q e .last)), eq-eqb (refusalOf q) 0 e, s)
 
     pub any-day-in-span : inSpan q n ≡ true → examinedAnyDay q n ≡ examinedOf q n
     any-day-in-span s = any-day (omega (arith, in-span-low s, accepted-by q e .last)) ∙ sym (examined-at s)
@@ -98,7 +106,7 @@ module _ (q : Query) (n : ℕ) where
     -- a day that is not of the span
     pub any-day-outside-span : inSpan q n ≡ false → record { refusal = examinedAnyDay q n .refusal; matches = false; next = examinedAnyDay q n .next } ≡ examinedOf q n
     unfolding examinedAnyDay examinedOf matches
-    any-day-outside-span s = rw (eq-eqb (refusalOf q) 0 e, s) (either (leb n lastDay))
+    any-day-outside-span s = rw (accepted-by q e .edition, eq-eqb (refusalOf q) 0 e, s) (either (leb n lastDay))
       where
         either : (b : Bool) → record { refusal = cond b (said (conditionsMet q n) (nextDay q n)) (notExamined 2) .refusal; matches = false; next = cond b (said (conditionsMet q n) (nextDay q n)) (notExamined 2) .next } ≡ cond b (said false (nextDay q n)) (notExamined 2)
         either true = refl

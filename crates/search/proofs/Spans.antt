@@ -78,7 +78,7 @@ module _ (q : Query) where
   pub part-accepted : (a b : ℕ) → refusalOf q ≡ 0 → a ≤ b → b ≤ q .last → refusalOf (between q a b) ≡ 0
   part-accepted a b e h k =
       let by = accepted-by q e in
-      accepts (between q a b) h (omega (arith, by .last)) (same (by .conditions))
+      accepts (between q a b) (by .edition) h (omega (arith, by .last)) (same (by .conditions))
     where
       same : conditionsInRange q ≡ true → conditionsInRange (between q a b) ≡ true
       same h = unfold conditionsInRange in h

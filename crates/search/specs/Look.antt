@@ -3,10 +3,11 @@
 use mathlib.Core.Bool.{Bool, false, cond}
 use Prim.Native.Nat.{ℕ, _+_}
 use lib.Dec.{leb, eqb}
-use Rattle.days.specs.Refusals.{accepted, outOfRange}
+use Rattle.days.specs.Refusals.{accepted, outOfRange, badEdition}
 use Rattle.days.specs.Days.{lastDay, pairAt}
 use Rattle.integers.specs.RoundedUp.{roundedUp}
 use Rattle.longitudes.specs.Longitudes.{differenceOf, longitudeAt}
+use Rattle.panchanga.specs.TrueLongitudes.{isEdition}
 use Rattle.query.specs.declared.Query.{Query}
 use Rattle.query.specs.Conditions.{inArc}
 use Rattle.query.specs.Query.{sunArc, matches, refusalOf}
@@ -32,9 +33,11 @@ nextDay q n = cond (sunInArc q n) (n + 1) (n + roundedUp (secondsAhead q n) 3549
 abbrev pub notExamined : ℕ → Examined
 notExamined refusal = record { refusal = refusal; matches = false; next = 0 }
 
--- paper 01's look at day n: refused where n is no day or the search refuses the query; else whether the day fits, and the day that the walk takes next
+-- paper 01's look at day n: refused for the query's edition, where n is no day, or where the search refuses the query; else whether the day fits, and the day that the walk takes next
 unfoldable pub examinedOf : Query → ℕ → Examined
 examinedOf q n =
-    cond (leb n lastDay)
+    cond (isEdition (q .edition))
+    (cond (leb n lastDay)
     (cond (eqb (refusalOf q) accepted) (record { refusal = accepted; matches = matches q n; next = nextDay q n }) (notExamined (refusalOf q)))
-    (notExamined outOfRange)
+    (notExamined outOfRange))
+    (notExamined badEdition)

@@ -9,6 +9,7 @@ between q a b =
     record {
       first = a;
       last = b;
+      edition = q .edition;
       weekday = q .weekday;
       tithi = q .tithi;
       nakshatra = q .nakshatra;

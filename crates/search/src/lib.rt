@@ -175,7 +175,10 @@ pub fn examine(query: Query, day: u32) -> Examined
 {
     let refusal = query.refusal();
     if refusal != refusal::NONE {
-        // A day that is none comes before what the query is refused for.
+        // A day that is none comes before what the query is refused for, but for its edition.
+        if refusal == refusal::BAD_EDITION {
+            return Examined::refused(refusal::BAD_EDITION);
+        }
         if Day::LAST < day {
             return Examined::refused(refusal::OUT_OF_RANGE);
         }

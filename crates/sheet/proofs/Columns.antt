@@ -7,6 +7,7 @@ use Rattle.days.specs.declared.NumberAnswer.{NumberAnswer}
 use Rattle.days.specs.Days.{lastDay, pairAt, weekdayOn, weekdayAt, weekdayOf, theNumber}
 use Rattle.days.proofs.Laws.{pair-in-range, count-pair, given}
 use Rattle.panchanga.specs.declared.Panchanga.{Panchanga}
+use Rattle.panchanga.specs.TrueLongitudes.{firstEdition, isEdition}
 use Rattle.panchanga.specs.OnDays.{panchangaOf}
 use Rattle.sheet.specs.Sheets.{columns}
 
@@ -27,8 +28,8 @@ found d w p =
 weekday-on : (n : ℕ) → n ≤ lastDay → weekdayOf (pairAt n) ≡ theNumber (weekdayOn n)
 weekday-on n h = given weekdayAt (pairAt n) (pair-in-range n h) ∙ ap (λ k. theNumber (weekdayOn k)) (count-pair n)
 
-of-pair : (n : ℕ) → n ≤ lastDay → found (pairAt n) (weekdayOf (pairAt n)) (panchangaOf (pairAt n)) ≡ columns n
-unfolding panchangaOf columns
+of-pair : (n : ℕ) → n ≤ lastDay → found (pairAt n) (weekdayOf (pairAt n)) (panchangaOf firstEdition (pairAt n)) ≡ columns n
+unfolding panchangaOf isEdition columns
 of-pair n h = rw (weekday-on n h, pair-in-range n h)
 
 pub columns-found :
@@ -36,6 +37,6 @@ pub columns-found :
     n ≤ lastDay →
     d ≡ pairAt n →
     w ≡ weekdayOf d →
-    p ≡ panchangaOf d →
+    p ≡ panchangaOf firstEdition d →
     found d w p ≡ columns n
 columns-found n d w p h pair weekday panchanga = rw (panchanga, weekday, pair) (of-pair n h)

@@ -3,7 +3,7 @@ use mathlib.Core.Path.{_≡_, refl}
 use mathlib.Core.List.{[], _∷_}
 use Rattle.integers.specs.Integers.{floorOver, reduced}
 use Rattle.longitudes.specs.Longitudes.{differenceOf, table, meanLongitude, longitudeAt}
-use Rattle.panchanga.specs.TrueLongitudes.{bhuja, equation, signed, corrected, trueLongitude}
+use Rattle.panchanga.specs.TrueLongitudes.{bhuja, equation, signed, corrected, trueLongitude, trueMoon}
 use Rattle.panchanga.specs.Elements.{karanaAfter}
 use Rattle.panchanga.specs.OnDays.{trueSunAt, trueMoonAt, tithiAt, nakshatraAt, yogaAt, karanaAt}
 use Rattle.text.specs.Ascii.{ascii}
@@ -15,7 +15,7 @@ use Rattle.sheet.specs.Sheets.{sheetHeading, columns, twoLines, sheetOf}
 pub printed :
     sheetOf (ascii "33649\n")
     ≡ ascii "day cycle within weekday sun moon tithi nakshatra yoga karana\n33649 8 1521 0 128648 737042 14 15 18 7\n"
-unfolding sheetOf twoLines columns sheetHeading spaced dayInput inputRead isLine numberRead isNumber allDigits isDigit valueOf withDigit digitsOf digitsWithin trueSunAt trueMoonAt tithiAt nakshatraAt yogaAt karanaAt karanaAfter trueLongitude corrected signed equation bhuja differenceOf longitudeAt meanLongitude table floorOver reduced
+unfolding sheetOf twoLines columns sheetHeading spaced dayInput inputRead isLine numberRead isNumber allDigits isDigit valueOf withDigit digitsOf digitsWithin trueSunAt trueMoonAt tithiAt nakshatraAt yogaAt karanaAt karanaAfter trueMoon trueLongitude corrected signed equation bhuja differenceOf longitudeAt meanLongitude table floorOver reduced
 printed = refl
 
 -- nothing, no digit, no newline, no number, too many digits, and no such day

@@ -8,6 +8,7 @@ use Rattle.days.specs.declared.Day.{Day}
 use Rattle.days.specs.declared.NumberAnswer.{NumberAnswer}
 use Rattle.days.specs.Refusals.{accepted}
 use Rattle.days.specs.Days.{pairAt, weekdayOn}
+use Rattle.panchanga.specs.TrueLongitudes.{firstEdition}
 use Rattle.panchanga.specs.OnDays.{trueSunAt, trueMoonAt, tithiAt, nakshatraAt, yogaAt, karanaAt}
 use Rattle.text.specs.Ascii.{ascii}
 use Rattle.text.specs.Decimal.{digitsOf}
@@ -17,7 +18,7 @@ use Rattle.text.specs.Inputs.{dayInput}
 unfoldable pub sheetHeading : List ℕ
 sheetHeading = ascii "day cycle within weekday sun moon tithi nakshatra yoga karana\n"
 
--- what the sheet has after a day's number, in the heading's order
+-- what the sheet has after a day's number, in the heading's order; the sheet is of the first edition
 unfoldable pub columns : ℕ → List ℕ
 columns n =
     let d : Day = pairAt n in
@@ -25,11 +26,11 @@ columns n =
     ∷ d .within
     ∷ weekdayOn n
     ∷ trueSunAt d
-    ∷ trueMoonAt d
-    ∷ tithiAt d
-    ∷ nakshatraAt d
-    ∷ yogaAt d
-    ∷ karanaAt d
+    ∷ trueMoonAt firstEdition d
+    ∷ tithiAt firstEdition d
+    ∷ nakshatraAt firstEdition d
+    ∷ yogaAt firstEdition d
+    ∷ karanaAt firstEdition d
     ∷ []
 
 -- the two lines of day n

@@ -15,7 +15,7 @@ fn two_lines(number: u32, day: Day) -> Line
     ensures { λ r. ⌜ Holds r (twoLines number) ⌝ }
 {
     let weekday = day.weekday();
-    let elements = panchanga::of_day(day);
+    let elements = panchanga::of_day(panchanga::FIRST_EDITION, day);
     let started = Line::empty()
         .text(b"day cycle within weekday sun moon tithi nakshatra yoga karana\n")
         .number(number);

@@ -10,7 +10,7 @@ use Rattle.civil.proofs.Laws.{counted, by-count}
 use Rattle.saka.specs.LunarDays.{lunarDay, lunarDayWith, fieldsInRange, yearInRange, extraMonths, elapsedExtraMonths, reckonedDay, havingWeekday, integerDay, answerFrom, dayOn}
 use Rattle.longitudes.specs.Longitudes.{differenceOf, table, meanLongitude, longitudeAt, longitudesAt}
 use Rattle.longitudes.specs.Answers.{longitudesOf}
-use Rattle.panchanga.specs.TrueLongitudes.{bhuja, equation, signed, corrected, trueLongitude}
+use Rattle.panchanga.specs.TrueLongitudes.{bhuja, equation, signed, corrected, trueLongitude, isEdition, trueMoon}
 use Rattle.panchanga.specs.Elements.{karanaAfter}
 use Rattle.panchanga.specs.OnDays.{trueSunAt, trueMoonAt, tithiAt, nakshatraAt, yogaAt, karanaAt, panchangaOf}
 use Rattle.query.specs.Conditions.{meets, inArc, arcsMet, elementsMet, askedInRange, arcInRange, arcsInRange, conditionsInRange}
@@ -26,6 +26,6 @@ starred-hold =
     simp by-count
     (unfold inRange dayOf floorOver reduced leap monthDays lost dateExists serialOf counted lunarDay lunarDayWith fieldsInRange yearInRange
     extraMonths elapsedExtraMonths reckonedDay havingWeekday integerDay answerFrom dayOn differenceOf table meanLongitude longitudeAt longitudesAt
-    longitudesOf bhuja equation signed corrected trueLongitude karanaAfter trueSunAt trueMoonAt tithiAt nakshatraAt yogaAt karanaAt
+    longitudesOf bhuja equation signed corrected trueLongitude isEdition trueMoon karanaAfter trueSunAt trueMoonAt tithiAt nakshatraAt yogaAt karanaAt
     panchangaOf meets inArc arcsMet elementsMet askedInRange arcInRange arcsInRange conditionsInRange conditionsMet sunInArc nextDay
     refusalOf filtered daysFrom matchingDays visitedFrom visitedDays resultOf in refl)

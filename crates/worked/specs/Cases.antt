@@ -11,6 +11,7 @@ use Rattle.saka.specs.LunarDays.{lunarDay}
 use Rattle.longitudes.specs.Longitudes.{longitudeAt}
 use Rattle.longitudes.specs.Answers.{longitudesOf}
 use Rattle.panchanga.specs.declared.Panchanga.{Panchanga}
+use Rattle.panchanga.specs.TrueLongitudes.{firstEdition}
 use Rattle.panchanga.specs.OnDays.{panchangaOf}
 use Rattle.query.specs.declared.Query.{Query}
 use Rattle.query.specs.Conditions.{notAsked, noArc}
@@ -53,6 +54,7 @@ twoYears =
     record {
       first = 0;
       last = 729;
+      edition = firstEdition;
       weekday = notAsked;
       tithi = notAsked;
       nakshatra = notAsked;
@@ -71,7 +73,7 @@ starred =
     -- places of K
     ∷ record { found = longitudesOf (pairAt 0) .longitudes; said = 1258860 ∷ 1256760 ∷ 603180 ∷ 99480 ∷ 1105680 ∷ 970380 ∷ 764160 ∷ 828540 ∷ 1027260 ∷ [] }
     -- true Sun 1266701, true Moon 1257257, tithi 29, nakshatra 26, yoga 25, karana 10
-    ∷ record { found = elements (panchangaOf (pairAt 0)); said = 1266701 ∷ 1257257 ∷ 29 ∷ 26 ∷ 25 ∷ 10 ∷ [] }
+    ∷ record { found = elements (panchangaOf firstEdition (pairAt 0)); said = 1266701 ∷ 1257257 ∷ 29 ∷ 26 ∷ 25 ∷ 10 ∷ [] }
     -- 18 March 1520: 2 (in the same line of the paper, without a star of its own)
     ∷ record { found = answer (date 1520 3 18); said = 2 ∷ 0 ∷ [] }
     -- 4 October 1582: day 22844

@@ -25,6 +25,9 @@ asked-requires-4 c κs = search needs
 arcs-requires : tie.Need-arcs-requires
 arcs-requires c κs = search needs
 
+number-requires-3 : tie.Need-number-requires-3
+number-requires-3 c κs = search needs
+
 returns : tie.Need-returns
 unfolding queryFrom
 returns c = cc
@@ -40,4 +43,5 @@ query-of-spec =
     asked-requires-3
     asked-requires-4
     arcs-requires
+    number-requires-3
     returns)

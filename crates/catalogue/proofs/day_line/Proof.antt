@@ -56,9 +56,9 @@ unfolding pieces isSeparator inFront
 returns c =
     let named = c .before .before .before .before .before .before .before .before in
     let found = named .before .before .before in
-    holds _ _ (line-fits _ (found .before .before .before .before .pre))
+    holds _ _ (line-fits _ _ (found .before .before .before .before .pre .1) (found .before .before .before .before .pre .0))
     (rw (c .byte3 .ensures, c .before .put-elements .ensures, c .before .before .text .ensures, c .before .before .before .byte2 .ensures, c .before .before .before .before .put-date .ensures, c .before .before .before .before .before .byte .ensures, c .before .before .before .before .before .before .number .ensures, c .before .before .before .before .before .before .before .empty .ensures)
-    (day-made _ _ _ _ _ _ _ (found .before .before .before .before .pre) (found .before .before .before .from-number .ensures) (found .before .before .date-of .ensures) (found .weekday .ensures) (named .name-at .ensures) (found .before .of-day .ensures)))
+    (day-made _ _ _ _ _ _ _ _ (found .before .before .before .before .pre .0) (found .before .before .before .from-number .ensures) (found .before .before .date-of .ensures) (found .weekday .ensures) (named .name-at .ensures) (found .before .of-day .ensures)))
 
 pub day-line-spec : {M : Type 1} → statement M
 day-line-spec =

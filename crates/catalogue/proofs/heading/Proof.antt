@@ -1,44 +1,27 @@
--- `heading` meets its contract: its line is put at the front where it fits. Assumes nothing.
-use native.Mathlib.Omega.{arith}
-use Rattle.catalogue.proofs.Filling.{holds-room}
-use Rattle.catalogue.proofs.Headings.{line-refused, line-put}
+-- `heading` meets its contract: a number that is no edition is refused, and of an edition `put_heading` hands back the answer. Assumes nothing.
 use borrow.Author.Needs.{needs}
+use borrow.Author.Tests.{not-true, not-false}
+use mathlib.Core.Path.{refl, sym, _∙_}
 use Rattle.catalogue.proofs.heading.Statement.{statement}
 use Rattle.catalogue.proofs.heading.Tie as tie
 
-heading-line-requires : tie.Need-heading-line-requires
-heading-line-requires c κs = search needs
+is-edition-requires : tie.Need-is-edition-requires
+is-edition-requires c κs = search needs
 
 refused-requires : tie.Need-refused-requires
 refused-requires c κs = search needs
 
 returns : tie.Need-returns
-returns c = rw (c .refused .ensures) (line-refused _ _ _ _ (c .before .before .heading-line .ensures) (c .before .if1 .taken))
+returns c = rw (sym (c .before .before .is-edition .ensures) ∙ not-true _ (c .before .if1 .taken)) (c .refused .ensures, refl)
 
-put-requires : tie.Need-put-requires
-put-requires c κs =
-    let room = holds-room (c .before .before .heading-line .ensures) in
-    (room .0, room .1, omega (arith, c .before .if1 .left))
-
-accepted-requires : tie.Need-accepted-requires
-accepted-requires c κs = search needs
+put-heading-requires : tie.Need-put-heading-requires
+put-heading-requires c κs = search needs
 
 same-length : tie.Need-same-length
 same-length c = search needs
 
 returns-2 : tie.Need-returns-2
-returns-2 c =
-    let made = c .before .before .before .before .before .before in
-    rw (c .accepted .ensures, c .before .before .before .put .ensures) (line-put _ _ _ _ (made .heading-line .ensures) (c .before .before .before .before .before .if1 .left))
+returns-2 c = rw (sym (c .before .before .before .before .before .is-edition .ensures) ∙ not-false _ (c .before .before .before .before .if1 .left)) (c .before .before .put-heading .ensures)
 
 pub heading-spec : {M : Type 1} → statement M
-heading-spec =
-    tie.close
-    (tie.spec
-    heading-line-requires
-    refused-requires
-    returns
-    put-requires
-    accepted-requires
-    same-length
-    returns-2)
+heading-spec = tie.close (tie.spec is-edition-requires refused-requires returns put-heading-requires same-length returns-2)

@@ -30,6 +30,9 @@ text-requires-2 c κs = search needs
 number-requires-2 : tie.Need-number-requires-2
 number-requires-2 c κs = search needs
 
+with-edition-requires : tie.Need-with-edition-requires
+with-edition-requires c κs = search needs
+
 slice-aggregate-text-3 : tie.Need-slice-aggregate-text-3
 slice-aggregate-text-3 c = search needs
 
@@ -39,8 +42,8 @@ text-requires-3 c κs = search needs
 returns : tie.Need-returns
 unfolding catalogueHeading
 returns c =
-    holds _ _ (heading-fits _ _ (omega arith) (omega arith))
-    (rw (c .text3 .ensures, c .before .before .number2 .ensures, c .before .before .before .text2 .ensures, c .before .before .before .before .before .number .ensures, c .before .before .before .before .before .before .text .ensures, c .before .before .before .before .before .before .before .before .empty .ensures)
+    holds _ _ (heading-fits _ _ _ (omega arith) (omega arith))
+    (rw (c .text3 .ensures, c .before .before .with-edition .ensures, c .before .before .before .number2 .ensures, c .before .before .before .before .text2 .ensures, c .before .before .before .before .before .before .number .ensures, c .before .before .before .before .before .before .before .text .ensures, c .before .before .before .before .before .before .before .before .before .empty .ensures)
     (simp (with-bytes-append, append-assoc)))
 
 pub heading-line-spec : {M : Type 1} → statement M
@@ -54,6 +57,7 @@ heading-line-spec =
     slice-aggregate-text-2
     text-requires-2
     number-requires-2
+    with-edition-requires
     slice-aggregate-text-3
     text-requires-3
     returns)

@@ -15,7 +15,7 @@ slice-reshare-prefix-write-next : tie.Need-slice-reshare-prefix-write-next
 slice-reshare-prefix-write-next c =
     let called = c .before .before in
     let start = called .before .before .before in
-    omega (arith, heading-short _ (start .pre .0 .0), heading-bytes _ (start .pre .0 .0) _ _ (start .pre .1 .0) (start .pre .1 .1) _ (start .pre .0 .1) _ _ (called .heading .ensures .0) (called .heading .ensures .1), called .heading .kept .1 .1 .0)
+    omega (arith, heading-short _ (start .pre .0 .0), heading-bytes _ (start .pre .0 .0) _ _ (start .pre .1 .0) (start .pre .1 .1) _ (start .pre .0 .1) _ _ (called .heading .ensures .0) (called .heading .ensures .1), called .heading .kept .1 .1 .1 .0)
 
 slice-aggregate-write-next : tie.Need-slice-aggregate-write-next
 slice-aggregate-write-next c =

@@ -29,6 +29,12 @@ slice-aggregate-text-4 c = search needs
 text-requires-4 : tie.Need-text-requires-4
 text-requires-4 c κs = search needs
 
+slice-aggregate-text-5 : tie.Need-slice-aggregate-text-5
+slice-aggregate-text-5 c = search needs
+
+text-requires-5 : tie.Need-text-requires-5
+text-requires-5 c κs = search needs
+
 returns : tie.Need-returns
 unfolding refusalText
 returns c = rw (c .text .ensures, c .before .before .match .keys1)
@@ -43,9 +49,13 @@ returns-3 c = rw (c .text3 .ensures, c .before .before .match .keys3)
 
 returns-4 : tie.Need-returns-4
 unfolding refusalText
-returns-4 c =
+returns-4 c = rw (c .text4 .ensures, c .before .before .match .keys4)
+
+returns-5 : tie.Need-returns-5
+unfolding refusalText
+returns-5 c =
     let none = c .before .before .match .rest in
-    rw (c .text4 .ensures, ne-eqb _ _ (none .0 .0 .1), ne-eqb _ _ (none .0 .1), ne-eqb _ _ (none .1))
+    rw (c .text5 .ensures, ne-eqb _ _ (none .0 .0 .0 .1), ne-eqb _ _ (none .0 .0 .1), ne-eqb _ _ (none .0 .1), ne-eqb _ _ (none .1))
 
 pub with-refusal-spec : {M : Type 1} → statement M
 with-refusal-spec =
@@ -59,7 +69,10 @@ with-refusal-spec =
     text-requires-3
     slice-aggregate-text-4
     text-requires-4
+    slice-aggregate-text-5
+    text-requires-5
     returns
     returns-2
     returns-3
-    returns-4)
+    returns-4
+    returns-5)

@@ -34,7 +34,7 @@ add-result c = omega (arith, c .body-place .ensures, place-most bodyNames (now (
 
 returns-2 : tie.Need-returns-2
 returns-2 c =
-    ap (λ (n : ℕ). 5 + n) (c .body-place .ensures)
+    ap (λ (n : ℕ). 6 + n) (c .body-place .ensures)
     ∙ place-behind conditionNames bodyNames (now (c .before .before .before .before .before .args .word)) (omega (arith, place-found (c .before .before)))
 
 pub keyword-of-spec : {M : Type 1} → statement M

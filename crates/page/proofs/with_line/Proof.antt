@@ -17,25 +17,28 @@ returns c = c .with-fault .ensures ∙ rw (le-leb _ _ (c .before .if1 .taken))
 array-read-if2 : tie.Need-array-read-if2
 array-read-if2 c = omega arith
 
+first-fault-requires : tie.Need-first-fault-requires
+first-fault-requires c κs = search needs
+
 with-fault-requires-2 : tie.Need-with-fault-requires-2
 with-fault-requires-2 c κs = search needs
 
 returns-2 : tie.Need-returns-2
 unfolding withLine
-returns-2 c = c .with-fault2 .ensures ∙ rw (lt-leb _ _ (c .before .before .before .if1 .left), c .before .if2 .taken)
+returns-2 c = c .with-fault2 .ensures ∙ rw (lt-leb _ _ (c .before .before .before .before .if1 .left), c .before .before .if2 .taken, c .before .first-fault .ensures)
 
 array-write-present : tie.Need-array-write-present
 array-write-present c = omega arith
 
-first-fault-requires : tie.Need-first-fault-requires
-first-fault-requires c κs = search needs
+first-fault-requires-2 : tie.Need-first-fault-requires-2
+first-fault-requires-2 c κs = search needs
 
 with-condition-requires : tie.Need-with-condition-requires
 with-condition-requires c κs = omega arith
 
 returns-3 : tie.Need-returns-3
 unfolding withLine
-returns-3 c = rw (lt-leb _ _ (c .before .before .before .before .if1 .left), c .before .before .if2 .left, c .before .first-fault .ensures, c .with-condition .ensures)
+returns-3 c = rw (lt-leb _ _ (c .before .before .before .before .if1 .left), c .before .before .if2 .left, c .before .first-fault2 .ensures, c .with-condition .ensures)
 
 pub with-line-spec : {M : Type 1} → statement M
 with-line-spec =
@@ -44,9 +47,10 @@ with-line-spec =
     with-fault-requires
     returns
     array-read-if2
+    first-fault-requires
     with-fault-requires-2
     returns-2
     array-write-present
-    first-fault-requires
+    first-fault-requires-2
     with-condition-requires
     returns-3)

@@ -1,21 +1,31 @@
--- `nakshatra` meets its contract: `in_range` tells which answer it is.
+-- `nakshatra` meets its contract: the refusal tells which answer it is.
 use borrow.Author.Needs.{needs}
-use mathlib.Core.Bool.{true}
-use mathlib.Core.Path.{_≡_, sym, ap, _∙_}
-use Rattle.days.specs.Days.{inRange, theNumber}
-use Rattle.days.proofs.Laws.{given, refused}
+use mathlib.Core.Path.{sym, ap, _∙_}
+use Rattle.days.specs.Days.{theNumber, noNumber}
 use Rattle.panchanga.specs.OnDays.{nakshatraAt}
+use Rattle.panchanga.proofs.Answers.{Accepted, accepted-for, answered, not-answered}
 use Rattle.panchanga.proofs.nakshatra.Statement.{statement}
 use Rattle.panchanga.proofs.nakshatra.Tie as tie
 
-ok : (c : tie.Then1) → inRange (c .before .before .args .day) ≡ true
-ok c = sym (c .before .in-range .ensures) ∙ c .if1 .taken
+known : (c : tie.Else1) → Accepted (c .before .before .args .edition) (c .before .before .args .day)
+known c = accepted-for _ _ (sym (c .before .refusal-for .ensures) ∙ c .if1 .left)
 
-in-range-requires : tie.Need-in-range-requires
-in-range-requires c κs = search needs
+refusal-for-requires : tie.Need-refusal-for-requires
+refusal-for-requires c κs = search needs
+
+refused-requires : tie.Need-refused-requires
+refused-requires c κs = search needs
+
+returns : tie.Need-returns
+returns c =
+    let e = c .before .before .refusal-for .ensures in
+    c .refused .ensures ∙ ap noNumber e ∙ sym (not-answered _ _ nakshatraAt (λ r. c .before .if1 .taken (e ∙ r)))
+
+moon-alone-on-requires : tie.Need-moon-alone-on-requires
+moon-alone-on-requires c κs = known c .range
 
 moon-on-requires : tie.Need-moon-on-requires
-moon-on-requires c κs = ok c
+moon-on-requires c κs = (known (c .before) .range, c .moon-alone-on .ensures)
 
 nakshatra-of-requires : tie.Need-nakshatra-of-requires
 nakshatra-of-requires c κs = search needs
@@ -23,12 +33,9 @@ nakshatra-of-requires c κs = search needs
 accepted-requires : tie.Need-accepted-requires
 accepted-requires c κs = search needs
 
-returns : tie.Need-returns
-unfolding nakshatraAt
-returns c = c .accepted .ensures ∙ ap theNumber (cc (c .before .nakshatra-of .ensures)) ∙ sym (given _ _ (ok (c .before .before .before)))
-
 returns-2 : tie.Need-returns-2
-returns-2 c = sym (refused _ _ (sym (c .before .in-range .ensures) ∙ c .if1 .left))
+unfolding nakshatraAt
+returns-2 c = c .accepted .ensures ∙ ap theNumber (cc (c .before .nakshatra-of .ensures)) ∙ sym (answered _ _ nakshatraAt (known (c .before .before .before .before)))
 
 pub nakshatra-spec : {M : Type 1} → statement M
-nakshatra-spec = tie.close (tie.spec in-range-requires moon-on-requires nakshatra-of-requires accepted-requires returns returns-2)
+nakshatra-spec = tie.close (tie.spec refusal-for-requires refused-requires returns moon-alone-on-requires moon-on-requires nakshatra-of-requires accepted-requires returns-2)

@@ -1,23 +1,33 @@
--- `of_day` meets its contract: `in_range` tells which answer it is, and each element has its call.
+-- `of_day` meets its contract: the refusal tells which answer it is, and each element has its call.
 use borrow.Author.Needs.{needs}
-use mathlib.Core.Bool.{true}
-use mathlib.Core.Path.{_≡_, sym, _∙_}
-use Rattle.days.specs.Days.{inRange}
-use Rattle.panchanga.specs.OnDays.{tithiAt, nakshatraAt, yogaAt, karanaAt, panchangaOf}
+use mathlib.Core.Path.{sym, ap, _∙_}
+use Rattle.panchanga.specs.OnDays.{tithiAt, nakshatraAt, yogaAt, karanaAt, noPanchanga}
+use Rattle.panchanga.proofs.Answers.{Accepted, accepted-for, elements-given, elements-refused}
 use Rattle.panchanga.proofs.of_day.Statement.{statement}
 use Rattle.panchanga.proofs.of_day.Tie as tie
 
-ok : (c : tie.Then1) → inRange (c .before .before .args .day) ≡ true
-ok c = sym (c .before .in-range .ensures) ∙ c .if1 .taken
+known : (c : tie.Else1) → Accepted (c .before .before .args .edition) (c .before .before .args .day)
+known c = accepted-for _ _ (sym (c .before .refusal-for .ensures) ∙ c .if1 .left)
 
-in-range-requires : tie.Need-in-range-requires
-in-range-requires c κs = search needs
+refusal-for-requires : tie.Need-refusal-for-requires
+refusal-for-requires c κs = search needs
+
+refused-requires : tie.Need-refused-requires
+refused-requires c κs = search needs
+
+returns : tie.Need-returns
+returns c =
+    let e = c .before .before .refusal-for .ensures in
+    c .refused .ensures ∙ ap noPanchanga e ∙ sym (elements-refused _ _ (λ r. c .before .if1 .taken (e ∙ r)))
 
 sun-on-requires : tie.Need-sun-on-requires
-sun-on-requires c κs = ok c
+sun-on-requires c κs = known c .range
+
+moon-alone-on-requires : tie.Need-moon-alone-on-requires
+moon-alone-on-requires c κs = known (c .before) .range
 
 moon-on-requires : tie.Need-moon-on-requires
-moon-on-requires c κs = ok (c .before)
+moon-on-requires c κs = (known (c .before .before) .range, c .moon-alone-on .ensures)
 
 tithi-of-requires : tie.Need-tithi-of-requires
 tithi-of-requires c κs = search needs
@@ -31,25 +41,24 @@ yoga-of-requires c κs = search needs
 karana-of-requires : tie.Need-karana-of-requires
 karana-of-requires c κs = search needs
 
-returns : tie.Need-returns
-unfolding panchangaOf tithiAt nakshatraAt yogaAt karanaAt
-returns c =
-    rw (ok (c .before .before .before .before .before .before), c .karana-of .ensures, c .before .yoga-of .ensures, c .before .before .nakshatra-of .ensures, c .before .before .before .tithi-of .ensures, c .before .before .before .before .moon-on .ensures .0, c .before .before .before .before .before .sun-on .ensures .0)
-
 returns-2 : tie.Need-returns-2
-unfolding panchangaOf
-returns-2 c = rw (sym (c .before .in-range .ensures) ∙ c .if1 .left)
+unfolding tithiAt nakshatraAt yogaAt karanaAt
+returns-2 c =
+    rw (c .karana-of .ensures, c .before .yoga-of .ensures, c .before .before .nakshatra-of .ensures, c .before .before .before .tithi-of .ensures, c .before .before .before .before .moon-on .ensures .0, c .before .before .before .before .before .before .sun-on .ensures .0)
+    (sym (elements-given _ _ (known (c .before .before .before .before .before .before .before))))
 
 pub of-day-spec : {M : Type 1} → statement M
 of-day-spec =
     tie.close
     (tie.spec
-    in-range-requires
+    refusal-for-requires
+    refused-requires
+    returns
     sun-on-requires
+    moon-alone-on-requires
     moon-on-requires
     tithi-of-requires
     nakshatra-of-requires
     yoga-of-requires
     karana-of-requires
-    returns
     returns-2)

@@ -1,24 +1,34 @@
--- `yoga` meets its contract: `in_range` tells which answer it is.
+-- `yoga` meets its contract: the refusal tells which answer it is.
 use borrow.Author.Needs.{needs}
-use mathlib.Core.Bool.{true}
-use mathlib.Core.Path.{_≡_, sym, ap, _∙_}
-use Rattle.days.specs.Days.{inRange, theNumber}
-use Rattle.days.proofs.Laws.{given, refused}
+use mathlib.Core.Path.{sym, ap, _∙_}
+use Rattle.days.specs.Days.{theNumber, noNumber}
 use Rattle.panchanga.specs.OnDays.{yogaAt}
+use Rattle.panchanga.proofs.Answers.{Accepted, accepted-for, answered, not-answered}
 use Rattle.panchanga.proofs.yoga.Statement.{statement}
 use Rattle.panchanga.proofs.yoga.Tie as tie
 
-ok : (c : tie.Then1) → inRange (c .before .before .args .day) ≡ true
-ok c = sym (c .before .in-range .ensures) ∙ c .if1 .taken
+known : (c : tie.Else1) → Accepted (c .before .before .args .edition) (c .before .before .args .day)
+known c = accepted-for _ _ (sym (c .before .refusal-for .ensures) ∙ c .if1 .left)
 
-in-range-requires : tie.Need-in-range-requires
-in-range-requires c κs = search needs
+refusal-for-requires : tie.Need-refusal-for-requires
+refusal-for-requires c κs = search needs
+
+refused-requires : tie.Need-refused-requires
+refused-requires c κs = search needs
+
+returns : tie.Need-returns
+returns c =
+    let e = c .before .before .refusal-for .ensures in
+    c .refused .ensures ∙ ap noNumber e ∙ sym (not-answered _ _ yogaAt (λ r. c .before .if1 .taken (e ∙ r)))
 
 sun-on-requires : tie.Need-sun-on-requires
-sun-on-requires c κs = ok c
+sun-on-requires c κs = known c .range
+
+moon-alone-on-requires : tie.Need-moon-alone-on-requires
+moon-alone-on-requires c κs = known (c .before) .range
 
 moon-on-requires : tie.Need-moon-on-requires
-moon-on-requires c κs = ok (c .before)
+moon-on-requires c κs = (known (c .before .before) .range, c .moon-alone-on .ensures)
 
 yoga-of-requires : tie.Need-yoga-of-requires
 yoga-of-requires c κs = search needs
@@ -26,12 +36,9 @@ yoga-of-requires c κs = search needs
 accepted-requires : tie.Need-accepted-requires
 accepted-requires c κs = search needs
 
-returns : tie.Need-returns
-unfolding yogaAt
-returns c = c .accepted .ensures ∙ ap theNumber (cc (c .before .yoga-of .ensures)) ∙ sym (given _ _ (ok (c .before .before .before .before)))
-
 returns-2 : tie.Need-returns-2
-returns-2 c = sym (refused _ _ (sym (c .before .in-range .ensures) ∙ c .if1 .left))
+unfolding yogaAt
+returns-2 c = c .accepted .ensures ∙ ap theNumber (cc (c .before .yoga-of .ensures)) ∙ sym (answered _ _ yogaAt (known (c .before .before .before .before .before)))
 
 pub yoga-spec : {M : Type 1} → statement M
-yoga-spec = tie.close (tie.spec in-range-requires sun-on-requires moon-on-requires yoga-of-requires accepted-requires returns returns-2)
+yoga-spec = tie.close (tie.spec refusal-for-requires refused-requires returns sun-on-requires moon-alone-on-requires moon-on-requires yoga-of-requires accepted-requires returns-2)

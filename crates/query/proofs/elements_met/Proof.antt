@@ -22,7 +22,7 @@ admits-requires c κs = search needs
 
 returns-2 : tie.Need-returns-2
 returns-2 c =
-    let e = elements-on (c .before .before .before .before .before .before .before .before .args .day) _ (c .before .before .before .before .before .before .before .before .pre) (c .before .before .of-day .ensures) in
+    let e = elements-on _ (c .before .before .before .before .before .before .before .before .args .day) _ (c .before .before .before .before .before .before .before .before .pre) (c .before .before .of-day .ensures) in
     tithi-not-met (c .before .before .before .before .before .before .before .before .args .query) _ (ap (meets (c .before .before .before .before .before .before .before .before .args .query .tithi)) (sym (e .tithi)) ∙ sym (c .before .admits .ensures) ∙ not-true _ (c .if3 .taken))
 
 admits-requires-2 : tie.Need-admits-requires-2
@@ -30,7 +30,7 @@ admits-requires-2 c κs = search needs
 
 returns-3 : tie.Need-returns-3
 returns-3 c =
-    let e = elements-on (c .before .before .before .before .before .before .before .before .before .before .args .day) _ (c .before .before .before .before .before .before .before .before .before .before .pre) (c .before .before .before .before .of-day .ensures) in
+    let e = elements-on _ (c .before .before .before .before .before .before .before .before .before .before .args .day) _ (c .before .before .before .before .before .before .before .before .before .before .pre) (c .before .before .before .before .of-day .ensures) in
     let q = c .before .before .before .before .before .before .before .before .before .before .args .query in
     nakshatra-not-met q _
     (ap (meets (q .tithi)) (sym (e .tithi)) ∙ sym (c .before .before .before .admits .ensures) ∙ not-false _ (c .before .before .if3 .left))
@@ -41,7 +41,7 @@ admits-requires-3 c κs = search needs
 
 returns-4 : tie.Need-returns-4
 returns-4 c =
-    let e = elements-on (c .before .before .before .before .before .before .before .before .before .before .before .args .day) _ (c .before .before .before .before .before .before .before .before .before .before .before .pre) (c .before .before .before .before .before .of-day .ensures) in
+    let e = elements-on _ (c .before .before .before .before .before .before .before .before .before .before .before .args .day) _ (c .before .before .before .before .before .before .before .before .before .before .before .pre) (c .before .before .before .before .before .of-day .ensures) in
     let q = c .before .before .before .before .before .before .before .before .before .before .before .args .query in
     yoga-decides q _ _
     (ap (meets (q .tithi)) (sym (e .tithi)) ∙ sym (c .before .before .before .before .admits .ensures) ∙ not-false _ (c .before .before .before .if3 .left))

@@ -1,7 +1,7 @@
 -- `nakshatra_met` meets its contract: the nakshatra of a day in range is not refused.
 use borrow.Author.Needs.{needs}
-use Rattle.days.proofs.Laws.{given-number}
 use Rattle.panchanga.specs.OnDays.{nakshatraAt}
+use Rattle.panchanga.proofs.Answers.{given-in}
 use Rattle.query.specs.Conditions.{meets}
 use Rattle.query.proofs.nakshatra_met.Statement.{statement}
 use Rattle.query.proofs.nakshatra_met.Tie as tie
@@ -12,7 +12,7 @@ nakshatra-requires c κs = search needs
 returns : tie.Need-returns
 unfolding meets
 returns c =
-    rw (c .before .before .before .if1 .taken, given-number nakshatraAt _ (c .before .before .nakshatra .ensures) (c .before .before .before .before .pre))
+    rw (c .before .before .before .if1 .taken, given-in nakshatraAt _ _ (c .before .before .nakshatra .ensures) (c .before .before .before .before .pre .1) (c .before .before .before .before .pre .0))
 
 returns-2 : tie.Need-returns-2
 unfolding meets

@@ -1,7 +1,7 @@
--- `examine` meets its contract: refused for the day or for the query; of a day of the span what the look without the span says, of another no match.
+-- `examine` meets its contract: refused for the edition, for the day or for the query; of a day of the span what the look without the span says, of another no match.
 use borrow.Author.Needs.{needs}
 use mathlib.Core.Path.{sym, _∙_}
-use Rattle.search.proofs.Look.{refused-day, refused-query, any-day-in-span, any-day-outside-span}
+use Rattle.search.proofs.Look.{refused-edition, refused-day, refused-query, any-day-in-span, any-day-outside-span}
 use Rattle.search.proofs.examine.Statement.{statement}
 use Rattle.search.proofs.examine.Tie as tie
 
@@ -12,13 +12,19 @@ refused-requires : tie.Need-refused-requires
 refused-requires c κs = search needs
 
 returns : tie.Need-returns
-returns c = c .refused .ensures ∙ refused-day _ _ (c .before .if2 .taken)
+returns c = c .refused .ensures ∙ refused-edition _ _ _ (c .before .before .before .refusal .ensures) (c .before .if2 .taken)
 
 refused-requires-2 : tie.Need-refused-requires-2
 refused-requires-2 c κs = search needs
 
 returns-2 : tie.Need-returns-2
-returns-2 c = c .refused2 .ensures ∙ refused-query _ _ _ (c .before .if2 .left) (c .before .before .before .refusal .ensures) (c .before .before .if1 .taken)
+returns-2 c = c .refused2 .ensures ∙ refused-day _ _ _ (c .before .before .before .before .refusal .ensures) (c .before .before .if2 .left) (c .before .if3 .taken)
+
+refused-requires-3 : tie.Need-refused-requires-3
+refused-requires-3 c κs = search needs
+
+returns-3 : tie.Need-returns-3
+returns-3 c = c .refused3 .ensures ∙ refused-query _ _ _ (c .before .before .before .before .refusal .ensures) (c .before .before .if2 .left) (c .before .if3 .left) (c .before .before .before .if1 .taken)
 
 examine-any-day-requires : tie.Need-examine-any-day-requires
 examine-any-day-requires c κs = search needs
@@ -26,11 +32,11 @@ examine-any-day-requires c κs = search needs
 in-span-requires : tie.Need-in-span-requires
 in-span-requires c κs = search needs
 
-returns-3 : tie.Need-returns-3
-returns-3 c = c .before .before .examine-any-day .ensures ∙ any-day-in-span _ _ (sym (c .before .before .before .before .refusal .ensures) ∙ c .before .before .before .if1 .left) (sym (c .before .in-span .ensures) ∙ c .if3 .taken)
-
 returns-4 : tie.Need-returns-4
-returns-4 c = rw (c .before .before .examine-any-day .ensures) (any-day-outside-span _ _ (sym (c .before .before .before .before .refusal .ensures) ∙ c .before .before .before .if1 .left) (sym (c .before .in-span .ensures) ∙ c .if3 .left))
+returns-4 c = c .before .before .examine-any-day .ensures ∙ any-day-in-span _ _ (sym (c .before .before .before .before .refusal .ensures) ∙ c .before .before .before .if1 .left) (sym (c .before .in-span .ensures) ∙ c .if4 .taken)
+
+returns-5 : tie.Need-returns-5
+returns-5 c = rw (c .before .before .examine-any-day .ensures) (any-day-outside-span _ _ (sym (c .before .before .before .before .refusal .ensures) ∙ c .before .before .before .if1 .left) (sym (c .before .in-span .ensures) ∙ c .if4 .left))
 
 pub examine-spec : {M : Type 1} → statement M
 examine-spec =
@@ -41,7 +47,9 @@ examine-spec =
     returns
     refused-requires-2
     returns-2
+    refused-requires-3
+    returns-3
     examine-any-day-requires
     in-span-requires
-    returns-3
-    returns-4)
+    returns-4
+    returns-5)

@@ -7,6 +7,7 @@ use Prim.Native.Nat.{ℕ}
 use Rattle.days.proofs.Laws.{ThatDay, that-day, no-such-day, past-last}
 use Rattle.longitudes.specs.Longitudes.{differenceOf, longitudeAt}
 use Rattle.query.specs.Query.{sunArc}
+use Rattle.query.proofs.Accepted.{accepted-by}
 use Rattle.longitudes.proofs.Answers.{given-seconds}
 use Rattle.longitudes.proofs.Subtraction.{is-small}
 use Rattle.search.proofs.Circle.{past}
@@ -36,7 +37,7 @@ element-copy-out-arc : tie.Need-element-copy-out-arc
 element-copy-out-arc c = search needs
 
 inside : (c : tie.Then2) → Inside (c .before .before .before .before .before .before .before .before .before .args .t1) (c .before .before .before .before .before .before .before .before .before .args .day) (c .before .before .before .before .before .before .before .before .from-number .result .day)
-inside c = let k = day (c .before .before .before .before .before .before) in record { low = k .number; pair = k .pair; sun = no-arc _ _ (not-true _ (c .if2 .taken)) }
+inside c = let k = day (c .before .before .before .before .before .before) in record { edition = accepted-by _ (c .before .before .before .before .before .before .before .before .before .pre) .edition; low = k .number; pair = k .pair; sun = no-arc _ _ (not-true _ (c .if2 .taken)) }
 
 weekday-met-requires : tie.Need-weekday-met-requires
 weekday-met-requires c κs = inside c .low
@@ -86,7 +87,7 @@ distance c =
 inside-2 : (c : tie.Then5) → Inside (c .before .before .before .before .before .before .before .before .before .before .before .before .before .args .t1) (c .before .before .before .before .before .before .before .before .before .before .before .before .before .args .day) (c .before .before .before .before .before .before .before .before .before .before .before .before .from-number .result .day)
 inside-2 c =
     let k = day (c .before .before .before .before .before .before .before .before .before .before) in
-    record { low = k .number; pair = k .pair; sun = past-in _ _ (not-false _ (c .before .before .before .before .if2 .left)) (rw (distance (c .before .before)) at (c .if5 .taken)) }
+    record { edition = accepted-by _ (c .before .before .before .before .before .before .before .before .before .before .before .before .before .pre) .edition; low = k .number; pair = k .pair; sun = past-in _ _ (not-false _ (c .before .before .before .before .if2 .left)) (rw (distance (c .before .before)) at (c .if5 .taken)) }
 
 weekday-met-requires-2 : tie.Need-weekday-met-requires-2
 weekday-met-requires-2 c κs = inside-2 c .low
