@@ -174,7 +174,7 @@ firstFault f g = cond (ranksBefore (g .refusal) (f .refusal)) g f
 abbrev pub withFault : Page → Fault → Page
 withFault p f = record { fault = firstFault (p .fault) f; present = p .present; query = p .query }
 
--- the page with one more line, the nth: each keyword once; a repeated one is told but where the line has a refusal that comes first
+-- the page with one more line, the nth: each keyword once. A line that repeats one is malformed, unless it has a refusal that comes first
 unfoldable pub withLine : Page → ℕ → LineRead → Page
 withLine p n l =
     cond (leb keywordCount (l .keyword)) (withFault p (record { refusal = l .refusal; reason = l .reason; line = n }))
