@@ -12,7 +12,7 @@ use Rattle.days.proofs.Laws.{given, refused}
 use Rattle.panchanga.specs.declared.Panchanga.{Panchanga}
 use Rattle.panchanga.specs.TrueLongitudes.{firstEdition, isEdition}
 use Rattle.panchanga.specs.OnDays.{trueSunAt, trueMoonAt, tithiAt, nakshatraAt, yogaAt, karanaAt, noPanchanga, panchangaOf, inEdition}
-use Rattle.panchanga.specs.Refusal.{refusalFor}
+use Rattle.panchanga.specs.Parts.{refusalFor}
 
 -- both tests
 pub record Accepted (e : ℕ) (d : Day) : Type 0 where

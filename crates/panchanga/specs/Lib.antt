@@ -1,4 +1,4 @@
 pub mod TrueLongitudes
 pub mod Elements
 pub mod OnDays
-pub mod Refusal
+pub mod Parts

@@ -10,15 +10,11 @@ use Rattle.longitudes.specs.declared.Body.the-variants.{Sun, Moon, MoonApogee}
 use Rattle.longitudes.specs.Longitudes.{longitudeAt}
 use Rattle.longitudes.specs.Answers.{bodyNumber}
 use Rattle.panchanga.specs.declared.Panchanga.{Panchanga}
-use Rattle.panchanga.specs.TrueLongitudes.{trueSun, isEdition, moonAlone, trueMoon}
+use Rattle.panchanga.specs.TrueLongitudes.{trueSun, isEdition, trueMoon}
 use Rattle.panchanga.specs.Elements.{tithi, nakshatra, yoga, karana}
 
 unfoldable pub trueSunAt : Day → ℕ
 trueSunAt d = trueSun (longitudeAt (bodyNumber Sun) d)
-
--- with its own equation alone
-abbrev pub moonAloneAt : Day → ℕ
-moonAloneAt d = moonAlone (longitudeAt (bodyNumber MoonApogee) d) (longitudeAt (bodyNumber Moon) d)
 
 -- in the edition e
 unfoldable pub trueMoonAt : ℕ → Day → ℕ

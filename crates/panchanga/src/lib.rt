@@ -12,8 +12,8 @@ ghost use Rattle.longitudes.specs.Longitudes.{longitudeAt};
 ghost use Rattle.longitudes.specs.Answers.{bodyNumber};
 ghost use Rattle.panchanga.specs.TrueLongitudes.{bhuja, bhujaProduct, equation, corrected, trueLongitude, sunAnomaly, sunEquation, isEdition};
 ghost use Rattle.panchanga.specs.Elements.{tithi, nakshatra, yoga, karana, karanaAfter};
-ghost use Rattle.panchanga.specs.OnDays.{trueSunAt, moonAloneAt, trueMoonAt, trueSunOf, trueMoonOf, tithiOf, nakshatraOf, yogaOf, karanaOf, noPanchanga, panchangaOf};
-ghost use Rattle.panchanga.specs.Refusal.{refusalFor};
+ghost use Rattle.panchanga.specs.OnDays.{trueSunAt, trueMoonAt, trueSunOf, trueMoonOf, tithiOf, nakshatraOf, yogaOf, karanaOf, noPanchanga, panchangaOf};
+ghost use Rattle.panchanga.specs.Parts.{moonAloneAt, refusalFor};
 
 // Sun and Moon are true longitudes; a refusal has all zeros.
 pub struct Panchanga {

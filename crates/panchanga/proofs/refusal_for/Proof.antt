@@ -2,7 +2,7 @@
 use borrow.Author.Needs.{needs}
 use borrow.Author.Tests.{not-true, not-false}
 use mathlib.Core.Path.{sym, _∙_}
-use Rattle.panchanga.specs.Refusal.{refusalFor}
+use Rattle.panchanga.specs.Parts.{refusalFor}
 use Rattle.panchanga.proofs.refusal_for.Statement.{statement}
 use Rattle.panchanga.proofs.refusal_for.Tie as tie
 
