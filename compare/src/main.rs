@@ -36,6 +36,9 @@ fn main() {
         runs::kept::run(checks, &almanac)
     });
     checks.part("looks", |checks| runs::look::run(checks, &almanac));
+    checks.part("sets of weekdays and two arcs", |checks| {
+        runs::smudged::run(checks, &almanac)
+    });
     checks.part("days that differ by edition", |checks| {
         runs::parted::run(checks, &almanac)
     });

@@ -1,13 +1,15 @@
 //! The page that the program `find` reads, and what it prints: a reading of paper 01 in words, a
-//! condition on each line, and the edition that it names by paper 02's L8.
+//! condition on each line, and the edition that it names by paper 02's L8, with L9's sets of weekdays
+//! and second arcs.
 //!
 //! `#` starts a comment up to the line's end; space, tab and carriage return separate words. A line
 //! without words says nothing. Another line is a word and its values, and no word may stand twice:
 //!
 //! - `span FROM TO`: day numbers or dates YEAR-MONTH-DAY; without it, all days of the table;
 //! - `edition`: a number; without it, 1;
-//! - `weekday`: a number, or its name; `tithi`, `nakshatra`, `yoga`: a number;
-//! - one of the nine bodies: an arc's start and width, each in seconds or as D:M:S.
+//! - `weekday`: one to seven, each a number or its name, none twice; `tithi`, `nakshatra`, `yoga`: a
+//!   number;
+//! - one of the nine bodies: an arc's start and width, each in seconds or as D:M:S, or two arcs'.
 //!
 //! It is read here as text, split into lines and words, and a line is asked for its refusal by
 //! searching with what it says alone.
@@ -22,7 +24,7 @@ use super::refusal::{
     Answer, BAD_CONDITION, BAD_INPUT, LAST_BEFORE_FIRST, NO_SUCH_DATE, NO_SUCH_EDITION,
     OUT_OF_RANGE,
 };
-use super::search::{Arc, Query};
+use super::search::{set_of, Arc, Arcs, Query};
 
 /// A page of so many bytes, or more, is refused as a whole.
 pub const TOO_LONG: usize = 524_288;
@@ -42,12 +44,23 @@ pub const BODIES: [&str; 9] = [
     "sun", "moon", "apogee", "node", "mars", "mercury", "jupiter", "venus", "saturn",
 ];
 
+const NO_SUCH_WORD: &str = "no line begins with this word";
+const OTHER_VALUES: &str = "a value is missing, of another form, or one too many";
+const TOO_MANY_VALUES: &str = "more values than any word has";
+const STANDS_ALREADY: &str = "this word stands already";
+const NO_NEWLINE: &str = "the last line has no newline";
+
+/// A refusal, and each reason for it in docs/find.md that is true of the line.
+struct Fault {
+    refusal: u32,
+    reasons: Vec<&'static str>,
+}
+
 /// What standard error has to say.
-#[derive(Debug)]
 pub enum Complaint {
     Nothing,
-    /// A line about the line of this number, counted from 1.
-    OfLine(usize),
+    /// A line about the line of this number, counted from 1, that gives one of these reasons.
+    OfLine(usize, Vec<&'static str>),
     /// A line about the page as a whole.
     OfPage,
 }
@@ -70,11 +83,12 @@ enum End {
 enum Said {
     Span(End, End),
     Edition(u32),
-    Weekday(u32),
+    /// The number of a set.
+    Weekdays(u32),
     Tithi(u32),
     Nakshatra(u32),
     Yoga(u32),
-    Arc(usize, Arc),
+    Arcs(usize, Arcs),
 }
 
 /// 1 to 9 decimal digits.
@@ -107,6 +121,15 @@ fn weekday(word: &str) -> Option<u32> {
     number(word).or_else(|| named().map(|weekday| weekday as u32))
 }
 
+/// One to seven. "A weekday that stands twice" makes it another form; a number that is none may stand
+/// twice, and is left to the search to refuse.
+fn weekdays(values: &[&str]) -> Option<Vec<u32>> {
+    let numbers: Option<Vec<u32>> = values.iter().map(|value| weekday(value)).collect();
+    let numbers = numbers.filter(|numbers| (1..=7).contains(&numbers.len()))?;
+    let times = |weekday: u32| numbers.iter().filter(|other| **other == weekday).count();
+    (0..7).all(|weekday| times(weekday) <= 1).then_some(numbers)
+}
+
 /// Seconds, or D:M:S with D below 1000, M and S below 60.
 fn seconds(word: &str) -> Option<u32> {
     let in_degrees = || match three_numbers(word, ':')? {
@@ -114,6 +137,19 @@ fn seconds(word: &str) -> Option<u32> {
         _ => None,
     };
     number(word).or_else(in_degrees)
+}
+
+/// A start and a width, or two of each.
+fn arcs(values: &[&str]) -> Option<Arcs> {
+    let numbers: Option<Vec<u32>> = values.iter().map(|value| seconds(value)).collect();
+    match numbers?[..] {
+        [start, width] => Some(Arcs::one(Arc::new(start, width))),
+        [start, width, other_start, other_width] => Some(Arcs::two(
+            Arc::new(start, width),
+            Arc::new(other_start, other_width),
+        )),
+        _ => None,
+    }
 }
 
 fn body(word: &str) -> Option<usize> {
@@ -126,18 +162,32 @@ fn words(line: &str) -> Vec<&str> {
     pieces.filter(|word| !word.is_empty()).collect()
 }
 
-/// None for words of another form.
-fn said_by(words: &[&str]) -> Option<Said> {
-    Some(match *words {
-        ["span", from, to] => Said::Span(end(from)?, end(to)?),
-        ["edition", value] => Said::Edition(number(value)?),
-        ["weekday", value] => Said::Weekday(weekday(value)?),
-        ["tithi", value] => Said::Tithi(number(value)?),
-        ["nakshatra", value] => Said::Nakshatra(number(value)?),
-        ["yoga", value] => Said::Yoga(number(value)?),
-        [name, start, width] => Said::Arc(body(name)?, Arc::new(seconds(start)?, seconds(width)?)),
-        _ => return None,
+/// None for values of another form, and for what is no word.
+fn said_by(word: &str, values: &[&str]) -> Option<Said> {
+    Some(match (word, values) {
+        ("span", [from, to]) => Said::Span(end(from)?, end(to)?),
+        ("edition", [value]) => Said::Edition(number(value)?),
+        ("weekday", _) => Said::Weekdays(set_of(&weekdays(values)?)),
+        ("tithi", [value]) => Said::Tithi(number(value)?),
+        ("nakshatra", [value]) => Said::Nakshatra(number(value)?),
+        ("yoga", [value]) => Said::Yoga(number(value)?),
+        _ => Said::Arcs(body(word)?, arcs(values)?),
     })
+}
+
+/// More values than these are too many, whatever they are: "more than seven values of a weekday, more
+/// than four of a body, and more than two of any other word".
+fn most_values(word: &str) -> usize {
+    match word {
+        "weekday" => 7,
+        _ if body(word).is_some() => 4,
+        _ => 2,
+    }
+}
+
+fn is_word(word: &str) -> bool {
+    ["span", "edition", "weekday", "tithi", "nakshatra", "yoga"].contains(&word)
+        || body(word).is_some()
 }
 
 fn gravity(refusal: u32) -> usize {
@@ -168,11 +218,11 @@ impl Said {
                 [query.first, query.last] = [ends[0]?, ends[1]?];
             }
             Said::Edition(value) => query.edition = value,
-            Said::Weekday(value) => query.weekday = Some(value),
+            Said::Weekdays(set) => query.weekdays = Some(set),
             Said::Tithi(value) => query.tithi = Some(value),
             Said::Nakshatra(value) => query.nakshatra = Some(value),
             Said::Yoga(value) => query.yoga = Some(value),
-            Said::Arc(body, arc) => query.arcs[body] = Some(arc),
+            Said::Arcs(body, arcs) => query.arcs[body] = arcs,
         }
         Ok(())
     }
@@ -185,43 +235,84 @@ impl Said {
     }
 }
 
-/// Adds what a line says to the query. `stood` are the words of the lines before it.
+/// The reason for a refusal other than 3.
+fn reason(refusal: u32) -> &'static str {
+    match refusal {
+        NO_SUCH_EDITION => "an edition other than 1 and 2",
+        NO_SUCH_DATE => "there is no such date",
+        OUT_OF_RANGE => "a day outside 0 to 401599",
+        LAST_BEFORE_FIRST => "the last day is before the first",
+        BAD_CONDITION => "a value is out of range",
+        _ => unreachable!("3 has reasons of its own"),
+    }
+}
+
+/// The reasons for refusing a line with 3, if there are any. Where its values are too many they aren't
+/// read. `stood` are the words of the lines before it.
+fn bad_input(word: &str, values: &[&str], stood: &BTreeSet<&str>) -> Option<Fault> {
+    let mut reasons = Vec::new();
+    if !is_word(word) {
+        reasons.push(NO_SUCH_WORD);
+    }
+    if values.len() > most_values(word) {
+        reasons.push(TOO_MANY_VALUES);
+    } else if is_word(word) && said_by(word, values).is_none() {
+        reasons.push(OTHER_VALUES);
+    }
+    if stood.contains(word) {
+        reasons.push(STANDS_ALREADY);
+    }
+    let refusal = BAD_INPUT;
+    (!reasons.is_empty()).then_some(Fault { refusal, reasons })
+}
+
+/// Adds what a line says to the query, and gives the gravest of its faults, if it has any: the page is
+/// then refused, and the query of no use.
 fn read_line<'a>(
     almanac: &Almanac,
     line: &'a str,
     stood: &mut BTreeSet<&'a str>,
     query: &mut Query,
-) -> Answer<()> {
-    let words = words(line.strip_suffix('\n').ok_or(BAD_INPUT)?);
-    if words.is_empty() {
+) -> Result<(), Fault> {
+    let line = line.strip_suffix('\n').ok_or(Fault {
+        refusal: BAD_INPUT,
+        reasons: vec![NO_NEWLINE],
+    })?;
+    let words = words(line);
+    let Some((word, values)) = words.split_first() else {
         return Ok(());
+    };
+    let mut faults = Vec::from_iter(bad_input(word, values, stood));
+    if let Some(said) = said_by(word, values) {
+        stood.insert(word);
+        let alone = said.well_formed(almanac);
+        if let Err(refusal) = alone.and_then(|()| said.put_into(query, almanac)) {
+            faults.push(Fault {
+                refusal,
+                reasons: vec![reason(refusal)],
+            });
+        }
     }
-    let said = said_by(&words).ok_or(BAD_INPUT)?;
-    let alone = said.well_formed(almanac);
-    if !stood.insert(words[0]) {
-        let graver = alone
-            .err()
-            .filter(|refusal| gravity(*refusal) < gravity(BAD_INPUT));
-        return Err(graver.unwrap_or(BAD_INPUT));
-    }
-    alone?;
-    said.put_into(query, almanac)
+    let gravest = faults
+        .into_iter()
+        .min_by_key(|fault| gravity(fault.refusal));
+    gravest.map_or(Ok(()), Err)
 }
 
-/// The query of a page, or the gravest refusal of its lines and the first line that has it.
-fn read(almanac: &Almanac, text: &str) -> Result<Query, (u32, usize)> {
+/// The query of a page, or the gravest fault of its lines and the first line that has it.
+fn read(almanac: &Almanac, text: &str) -> Result<Query, (Fault, usize)> {
     let mut query = Query::without_conditions(0, LAST_DAY);
     let mut stood = BTreeSet::new();
-    let mut refusals = Vec::new();
+    let mut faults = Vec::new();
     for (line, number) in text.split_inclusive('\n').zip(1..) {
-        if let Err(refusal) = read_line(almanac, line, &mut stood, &mut query) {
-            refusals.push((refusal, number));
+        if let Err(fault) = read_line(almanac, line, &mut stood, &mut query) {
+            faults.push((fault, number));
         }
     }
     // Of several that are equally grave, the first is taken.
-    let gravest = refusals
+    let gravest = faults
         .into_iter()
-        .min_by_key(|(refusal, _)| gravity(*refusal));
+        .min_by_key(|(fault, _)| gravity(fault.refusal));
     gravest.map_or(Ok(query), Err)
 }
 
@@ -247,6 +338,6 @@ pub fn printed(almanac: &Almanac, page: &[u8]) -> Printed {
                 complaint: Complaint::Nothing,
             }
         }
-        Err((refusal, line)) => refused(refusal, Complaint::OfLine(line)),
+        Err((fault, line)) => refused(fault.refusal, Complaint::OfLine(line, fault.reasons)),
     }
 }

@@ -3,16 +3,17 @@
 use crate::checks::Checks;
 use crate::random::Random;
 use crate::reference::almanac::Almanac;
+use crate::reference::catalogue::WEEKDAYS;
 use crate::reference::page::{printed, Complaint, BODIES, TOO_LONG};
 
 use super::page_text::*;
 use super::programs::{self, shown};
-use super::queries::random_query;
-use super::EDITIONS;
+use super::queries::Kind;
 
 const PROGRAM: &str = "target/bin/find";
 
-/// The complaint's words are the program's own; what they are about is compared.
+/// What the complaint is about is compared, and of a line its reason; where several are true, one of
+/// them will do.
 fn compare_complaint(
     checks: &mut Checks,
     input: impl Fn() -> String,
@@ -22,10 +23,13 @@ fn compare_complaint(
     let about = "what its standard error is about";
     match complaint {
         Complaint::Nothing => return checks.same("its standard error", input, "", error),
-        Complaint::OfLine(number) => {
+        Complaint::OfLine(number, reasons) => {
             let start = format!("line {number}: ");
+            let reason = error.strip_prefix(&start).unwrap_or_default().trim_end();
             let came: String = error.chars().take(start.len()).collect();
             checks.same(about, &input, start, came);
+            let told = reasons.iter().find(|true_one| **true_one == reason);
+            checks.same("its reason", &input, *told.unwrap_or(&reasons[0]), reason);
         }
         Complaint::OfPage => checks.same(about, &input, false, error.starts_with("line ")),
     }
@@ -76,15 +80,35 @@ fn lines(checks: &mut Checks, almanac: &Almanac) {
     }
 }
 
-/// No value, one, two, three for each word; and each word twice, with the first line refused for
-/// its value.
+/// No value, one, and so on to nine for each word, and for what is none; and each word twice, with the
+/// first line refused for its value.
 fn values(checks: &mut Checks, almanac: &Almanac) {
-    let words = ["span", "edition", "weekday", "tithi", "nakshatra", "yoga"];
+    let words = [
+        "span",
+        "edition",
+        "weekday",
+        "tithi",
+        "nakshatra",
+        "yoga",
+        "rahu",
+    ];
     for word in words.into_iter().chain(BODIES) {
-        for values in ["", " 2", " 2 6", " 5", " 5 6", " 5 6 7"] {
-            compare_line(checks, almanac, &format!("{word}{values}"));
+        for values in ["2 6 5 4 3 1 0 7 8", "5 6 7"] {
+            let values: Vec<&str> = values.split(' ').collect();
+            for count in 0..=values.len() {
+                let line = [&[word], &values[..count]].concat().join(" ");
+                compare_line(checks, almanac, &line);
+            }
         }
-        for values in ["2", "5", "5 6", "500000", "500000 0"] {
+        for values in [
+            "2",
+            "5",
+            "5 6",
+            "500000",
+            "500000 0",
+            "5 6 6 5",
+            "5 6 500000 0",
+        ] {
             let twice = format!("{word} {values}\n#\n{word} {values}");
             compare_line(checks, almanac, &twice);
         }
@@ -146,6 +170,67 @@ fn odd(checks: &mut Checks, almanac: &Almanac) {
     }
 }
 
+/// Every set of weekdays, in any order and form; and each weekday twice, by number and by name, and with
+/// the number behind Sunday's.
+fn weekday_sets(checks: &mut Checks, almanac: &Almanac) {
+    let mut random = Random::from_seed();
+    for set in 1..128 {
+        let values = weekdays(&mut random, set).join(" ");
+        compare_line(checks, almanac, &format!("weekday {values}"));
+    }
+    for (number, name) in WEEKDAYS.iter().enumerate() {
+        for values in [
+            format!("{number} {number}"),
+            format!("{number} {name}"),
+            format!("{name} 0{number}"),
+            format!("{name} {name}"),
+            format!("{number} 7"),
+            format!("7 {name} 7"),
+        ] {
+            compare_line(checks, almanac, &format!("weekday {values}"));
+        }
+    }
+}
+
+/// Sets of weekdays and second arcs with blanks and comments in odd places, over several lines, and
+/// beside other faults.
+fn smudged(checks: &mut Checks, almanac: &Almanac) {
+    let pages: [&[u8]; 29] = [
+        b"\t weekday\r\tmonday\t\ttuesday \r\nspan 5 19\r\n",
+        b"weekday\t0\r2 \t4\tsunday\nspan 5 19\n",
+        b"weekday monday # tuesday\nspan 5 19\n",
+        b"weekday monday#tuesday wednesday\nspan 5 19\n",
+        b"weekday monday tues#day\nspan 5 19\n",
+        b"weekday # monday tuesday\nspan 5 19\n",
+        b"weekday 0 1 2 3 4 5 6 # 0\nspan 5 19\n",
+        b"weekday monday\ntuesday\nspan 5 19\n",
+        b"weekday monday\nweekday tuesday\nspan 5 19\n",
+        b"weekday monday tuesday\nweekday 9 9\nspan 5 19\n",
+        b"weekday 9 9\nweekday monday tuesday\nspan 5 19\n",
+        b"weekday monday tuesday\nweekday 1 1\nspan 5 19\n",
+        b"weekday monday tuesday\nweekday 0 1 2 3 4 5 6 7\nspan 5 19\n",
+        b"weekday monday tuesday\nspan 5 19\nweekday",
+        b"span 5 19\nweekday monday tuesday",
+        b"weekday 9 9\nspan 9 5\n",
+        b"weekday 9 1 1\nspan 1582-10-10 5\n",
+        b"weekday 9 1 1\nedition 3\n",
+        b"weekday 0 1 2 3 4 5 6 7\nedition 0\n",
+        b"weekday 9 9\nsun 0 1296001 0 1\nedition 2\n",
+        b"sun\t0\t1:0:0\r180:0:0  1:0:0 \nspan 0 729\n",
+        b"sun 0 3600 # 648000 3600\nspan 0 729\n",
+        b"sun 0 3600 648000 # 3600\nspan 0 729\n",
+        b"sun 0 3600 648000#3600\nspan 0 729\n",
+        b"sun 0 3600\nsun 648000 3600\nspan 0 729\n",
+        b"sun 0 3600 648000 3600\nsun 0 3600 648000 3600 5\nspan 0 729\n",
+        b"sun 0 3600 648000 3600 5\nsun 0 3600\nspan 0 729\n",
+        b"sun 0 3600 648000 0\nmoon 0 3600 648000\nspan 9 5\n",
+        b"sun 0 3600 648000 3600\nedition 2\nweekday friday 3\nmoon 0 180:0:0 200:0:0 60:0:0\nspan 0 729\n",
+    ];
+    for page in pages {
+        compare(checks, almanac, page);
+    }
+}
+
 /// Pages with several lines that name an edition, good and bad, and with other faults beside them.
 fn editions(checks: &mut Checks, almanac: &Almanac) {
     let pages: [&[u8]; 30] = [
@@ -198,6 +283,10 @@ fn many_days(checks: &mut Checks, almanac: &Almanac) {
         "# Bombay, fol. 3: upper half\nweekday monday\ntithi 14\nsun 34:0:0 1:0:0\n",
         "span 1607-4-15 1612-12-31\nweekday thursday\nnakshatra 7      # Pushya\nyoga 4\n",
         "jupiter 100:0:0  1:0:0\nsaturn  360000  3600\ntithi   12\n",
+        "weekday monday tuesday\ntithi 14\nsun 34:0:0 1:0:0 64:0:0 1:0:0\n",
+        "sun 0 1 180:0:0 1\n",
+        "weekday 6 5 4\nsun 359:0:0 2:0:0 359:0:0 2:0:0\nyoga 3\n",
+        "saturn 0 3600 180:0:0 3600\nmoon 0 1:0:0 1:0:0 1:0:0\n",
     ];
     for page in pages {
         compare(checks, almanac, page.as_bytes());
@@ -215,7 +304,7 @@ fn long(checks: &mut Checks, almanac: &Almanac) {
     let comments = many(b"# a line of a long page\n");
     let blanks = b" \t\r".repeat(TOO_LONG / 7);
     let span = b"span 1000 1360\n";
-    let pages: [&[&[u8]]; 12] = [
+    let pages: [&[&[u8]]; 14] = [
         &[span, &comments, b"tithi 3\n"],
         &[b"weekday 9\n", &comments, b"span 9 5\n"],
         &[&many(b"\n"), b"tithi 3\n", span, b"tithi 3\n"],
@@ -223,6 +312,8 @@ fn long(checks: &mut Checks, almanac: &Almanac) {
         &[b"span", &blanks, b"1000", &blanks, b"1001\n"],
         &[b"span ", &many(b"0"), b" 1\n"],
         &[b"span ", &many(b"1 "), b"\n"],
+        &[b"weekday ", &many(b"9 "), b"\n"],
+        &[b"sun ", &many(b"1 "), b"\n"],
         &[&many(b"sun 0 0\n")],
         &[span, b"#", &many(b"weekday 9 "), b"\n"],
         &[b"edition 2\n", &comments, span],
@@ -278,13 +369,13 @@ fn in_pieces(checks: &mut Checks, almanac: &Almanac) {
 }
 
 /// The lines of a random query; any conditions, or one or two over a longer span.
-fn random_lines(random: &mut Random, almanac: &Almanac, edition: u32) -> Vec<Line> {
+fn random_lines(random: &mut Random, almanac: &Almanac, kind: Kind) -> Vec<Line> {
     let (given, most) = if random.once_in(2) {
         (random.below(1 << 13), 400)
     } else {
         (1 << random.below(13) | 1 << random.below(13), 3000)
     };
-    let query = random_query(random, almanac, edition, given, most);
+    let query = kind.draw(random, almanac, given, most);
     lines_of(random, almanac, &query)
 }
 
@@ -309,8 +400,10 @@ fn spoil(random: &mut Random, lines: &mut Vec<Line>) {
 
 fn random_pages(checks: &mut Checks, almanac: &Almanac) {
     let mut random = Random::from_seed();
-    for (round, edition) in (0..900).flat_map(|round| EDITIONS.map(|edition| (round, edition))) {
-        let mut lines = random_lines(&mut random, almanac, edition);
+    for (kind, round) in
+        Kind::all().flat_map(|kind| kind.rounds(900).map(move |round| (kind, round)))
+    {
+        let mut lines = random_lines(&mut random, almanac, kind);
         if round % 3 == 1 {
             spoil(&mut random, &mut lines);
         }
@@ -329,6 +422,8 @@ pub fn run(checks: &mut Checks, almanac: &Almanac) {
     values(checks, almanac);
     bytes(checks, almanac);
     odd(checks, almanac);
+    weekday_sets(checks, almanac);
+    smudged(checks, almanac);
     editions(checks, almanac);
     many_days(checks, almanac);
     long(checks, almanac);

@@ -6,9 +6,9 @@ use crate::random::Random;
 use crate::reference::almanac::Almanac;
 use crate::reference::days::LAST_DAY;
 use crate::reference::refusal::BAD_INPUT;
-use crate::reference::search::{Arc, Query};
+use crate::reference::search::{Arc, Arcs, Query};
 
-use super::queries::{at_range_ends, most_entries, random_query, spoil, REFUSED_SPANS};
+use super::queries::{at_range_ends, most_entries, spoil, Kind, REFUSED_SPANS};
 use super::query_bytes::{encode, other_lengths, shown};
 use super::searches::{self, SearchCalls};
 use super::{EDITIONS, NO_EDITIONS};
@@ -53,30 +53,34 @@ pub fn compare(checks: &mut Checks, almanac: &Almanac, random: &mut Random, quer
 }
 
 /// Every combination of conditions given and not given.
-fn combinations(checks: &mut Checks, almanac: &Almanac, random: &mut Random, edition: u32) {
+fn combinations(checks: &mut Checks, almanac: &Almanac, random: &mut Random, kind: Kind) {
     for given in 0..1 << 13 {
-        let query = random_query(random, almanac, edition, given, 400);
+        let query = kind.draw(random, almanac, given, 400);
         compare(checks, almanac, random, &query);
     }
 }
 
-/// One or two conditions, over longer spans.
-fn few_conditions(checks: &mut Checks, almanac: &Almanac, random: &mut Random, edition: u32) {
-    for round in 0..2000 {
+/// One or two conditions, over longer spans; some are as long as the table, or a hundred years for
+/// smudged queries.
+fn few_conditions(checks: &mut Checks, almanac: &Almanac, random: &mut Random, kind: Kind) {
+    let longest = if kind.smudged { 36_525 } else { LAST_DAY + 1 };
+    for round in kind.rounds(2000) {
         let given = 1 << random.below(13) | 1 << random.below(13);
-        let most = if round % 100 == 0 { LAST_DAY + 1 } else { 3000 };
-        let query = random_query(random, almanac, edition, given, most);
+        let most = if round % 100 == 0 { longest } else { 3000 };
+        let query = kind.draw(random, almanac, given, most);
         compare(checks, almanac, random, &query);
     }
 }
 
 /// Wide arcs of any bodies, with a weekday or without, so that many days match.
-fn wide_arcs(checks: &mut Checks, almanac: &Almanac, random: &mut Random, edition: u32) {
-    for _ in 0..2000 {
+fn wide_arcs(checks: &mut Checks, almanac: &Almanac, random: &mut Random, kind: Kind) {
+    for _ in kind.rounds(2000) {
         let given = random.below(1 << 9) << 4 | random.below(2);
-        let mut query = random_query(random, almanac, edition, given, 800);
-        for arc in query.arcs.iter_mut().flatten() {
-            arc.width = random.between(1_000_000, 1_296_000);
+        let mut query = kind.draw(random, almanac, given, 800);
+        for arcs in &mut query.arcs {
+            for arc in arcs.first.iter_mut().chain(&mut arcs.second) {
+                arc.width = random.between(1_000_000, 1_296_000);
+            }
         }
         compare(checks, almanac, random, &query);
     }
@@ -88,7 +92,7 @@ fn whole(checks: &mut Checks, almanac: &Almanac, random: &mut Random, edition: u
     query.edition = edition;
     compare(checks, almanac, random, &query);
     query.tithi = Some(14);
-    query.arcs[3] = Some(Arc::new(1_200_000, 200_000));
+    query.arcs[3] = Arcs::one(Arc::new(1_200_000, 200_000));
     compare(checks, almanac, random, &query);
 }
 
@@ -108,10 +112,10 @@ fn order(checks: &mut Checks, almanac: &Almanac, random: &mut Random) {
 }
 
 /// Any conditions, some of them ill-formed.
-fn refused(checks: &mut Checks, almanac: &Almanac, random: &mut Random, edition: u32) {
+fn refused(checks: &mut Checks, almanac: &Almanac, random: &mut Random, kind: Kind) {
     for _ in 0..4000 {
         let given = random.below(1 << 13);
-        let mut query = random_query(random, almanac, edition, given, 400);
+        let mut query = kind.draw(random, almanac, given, 400);
         spoil(random, &mut query);
         compare(checks, almanac, random, &query);
     }
@@ -126,12 +130,14 @@ fn no_queries(checks: &mut Checks, random: &mut Random) {
 
 pub fn run(checks: &mut Checks, almanac: &Almanac) {
     let mut random = Random::from_seed();
+    for kind in Kind::all() {
+        combinations(checks, almanac, &mut random, kind);
+        few_conditions(checks, almanac, &mut random, kind);
+        wide_arcs(checks, almanac, &mut random, kind);
+        refused(checks, almanac, &mut random, kind);
+    }
     for edition in EDITIONS {
-        combinations(checks, almanac, &mut random, edition);
-        few_conditions(checks, almanac, &mut random, edition);
-        wide_arcs(checks, almanac, &mut random, edition);
         whole(checks, almanac, &mut random, edition);
-        refused(checks, almanac, &mut random, edition);
     }
     order(checks, almanac, &mut random);
     no_queries(checks, &mut random);

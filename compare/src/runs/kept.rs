@@ -9,7 +9,7 @@ use crate::random::Random;
 use crate::reference::almanac::Almanac;
 use crate::reference::days::LAST_DAY;
 use crate::reference::longitudes::{MOON, SUN};
-use crate::reference::search::{Arc, Query};
+use crate::reference::search::{set_of, Arc, Query};
 
 use super::general_search::BridgeSearch;
 use super::host_search::HostSearch;
@@ -20,7 +20,7 @@ use super::{EDITIONS, NO_EDITIONS};
 
 /// So many matching days the library keeps while it counts. No answer depends on it: the comparison
 /// only chooses its cases by it.
-const KEPT: usize = 192;
+const KEPT: usize = 176;
 
 /// How many days of a span are to match.
 const COUNTS: [usize; 8] = [
@@ -214,19 +214,27 @@ fn any_day() -> Query {
     Query::without_conditions(0, LAST_DAY)
 }
 
+/// A body that stands twice has two arcs.
 fn with_arcs(arcs: &[(usize, Arc)]) -> Query {
     let mut query = any_day();
     for (body, arc) in arcs {
-        query.arcs[*body] = Some(*arc);
+        let arcs = &mut query.arcs[*body];
+        if arcs.first.is_none() {
+            arcs.first = Some(*arc);
+        } else {
+            arcs.second = Some(*arc);
+        }
     }
     query
 }
 
-/// All days; one in a week or a month; runs of days with a fortnight to 29 years between them; and
-/// Sun arcs of one day in most years, of two, and of some KEPT.
+/// All days; one in a week or a month; runs of days with a fortnight to 29 years between them; Sun arcs
+/// of one day in most years, of two, and of some KEPT; and sets of weekdays and two arcs of a body.
 fn general_searches(checks: &mut Checks, almanac: &Almanac, edition: u32) {
     let mut weekday = any_day();
-    weekday.weekday = Some(2);
+    weekday.weekdays = Some(set_of(&[2]));
+    let mut weekdays = any_day();
+    weekdays.weekdays = Some(set_of(&[0, 1, 6]));
     let mut tithi = any_day();
     tithi.tithi = Some(14);
     let mut nakshatra = any_day();
@@ -241,7 +249,11 @@ fn general_searches(checks: &mut Checks, almanac: &Almanac, edition: u32) {
     let venus = (VENUS, Arc::new(50, 1_000_000));
     let saturn = |width| (SATURN, Arc::new(50, width));
     let sun = |start, width| (SUN, Arc::new(start, width));
-    let searches: [(Query, &[Place]); 14] = [
+    let mut smudged = with_arcs(&[sun(0, 2 * DEGREE), sun(640_000, 3 * DEGREE)]);
+    smudged.weekdays = Some(set_of(&[1, 3, 4]));
+    let two_moons = [moon, (MOON, Arc::new(300_000, 100_000))];
+    let two_suns = [sun(1_295_000, DEGREE), sun(640_000, DEGREE)];
+    let searches: [(Query, &[Place]); 18] = [
         (any_day(), &ANYWHERE),
         (weekday, &ANYWHERE),
         (tithi, &[Cycle(7)]),
@@ -256,6 +268,10 @@ fn general_searches(checks: &mut Checks, almanac: &Almanac, edition: u32) {
         (with_arcs(&[sun(50, 2 * DEGREE)]), &[Soon, Late]),
         (with_arcs(&[sun(640_000, 3548 * KEPT as u32)]), &ANYWHERE),
         (with_arcs(&[sun(0, 30 * DEGREE), saturn(100_000)]), &[Quiet]),
+        (weekdays, &[Cycle(7)]),
+        (with_arcs(&two_moons), &[Late]),
+        (with_arcs(&two_suns), &[Soon, Late]),
+        (smudged, &[Soon, Late]),
     ];
     let mut random = Random::from_seed();
     for (mut conditions, places) in searches {

@@ -9,12 +9,12 @@ use crate::random::Random;
 use crate::reference::almanac::Almanac;
 use crate::reference::days::LAST_DAY;
 use crate::reference::edition::Edition;
-use crate::reference::longitudes::SUN;
+use crate::reference::longitudes::{MOON, SUN};
 use crate::reference::refusal::{result_number, Answer, BAD_INPUT};
-use crate::reference::search::{Arc, Look, Query};
+use crate::reference::search::{set_of, Arc, Arcs, Look, Query};
 
 use super::queries::{
-    arc_ahead, at_range_ends, random_arc, random_query, random_span, spoil, Span, REFUSED_ARCS,
+    arc_ahead, at_range_ends, random_arc, random_span, spoil, Kind, Span, REFUSED_ARCS,
     REFUSED_SPANS,
 };
 use super::query_bytes::{encode, other_lengths, shown};
@@ -92,9 +92,9 @@ fn days_about(random: &mut Random, (first, last): Span) -> BTreeSet<u32> {
 
 /// Every combination of conditions given and not given, and spans moved off a day that meets them
 /// all: it fits no more, and is followed as before.
-fn combinations(checks: &mut Checks, almanac: &Almanac, random: &mut Random, edition: u32) {
+fn combinations(checks: &mut Checks, almanac: &Almanac, random: &mut Random, kind: Kind) {
     for given in 0..1 << 13 {
-        let mut query = random_query(random, almanac, edition, given, 400);
+        let mut query = kind.draw(random, almanac, given, 400);
         let days = days_about(random, (query.first, query.last));
         compare(checks, almanac, random, &query, days);
         let found = query.search(almanac).expect("the query is well-formed");
@@ -125,12 +125,16 @@ fn every_day(checks: &mut Checks, almanac: &Almanac, random: &mut Random) {
         Query::of_host(200_000, 200_729, Arc::new(640_000, 1), 0),
         Query::without_conditions(4015, 401_000),
         Query::without_conditions(LAST_DAY, LAST_DAY),
+        Query::without_conditions(0, LAST_DAY),
     ];
     queries[2].nakshatra = Some(7);
-    queries[2].arcs[3] = Some(Arc::new(1_200_000, 200_000));
+    queries[2].arcs[3] = Arcs::one(Arc::new(1_200_000, 200_000));
     let last = almanac.days()[LAST_DAY as usize].elements(Edition::First);
     queries[3].tithi = Some(last.tithi);
-    queries[3].arcs[SUN] = Some(Arc::new(0, 1_296_000));
+    queries[3].arcs[SUN] = Arcs::one(Arc::new(0, 1_296_000));
+    queries[4].weekdays = Some(set_of(&[0, 1, 4]));
+    queries[4].arcs[SUN] = Arcs::two(Arc::new(640_000, 3600), Arc::new(1_295_000, 3600));
+    queries[4].arcs[MOON] = Arcs::two(Arc::new(1_200_000, 500_000), Arc::new(700_000, 100_000));
     let mut every_day = |query: &Query| {
         compare(checks, almanac, random, query, 0..=LAST_DAY + 1000);
         compare(checks, almanac, random, query, WIDTH_EDGES);
@@ -166,7 +170,7 @@ fn jumps(checks: &mut Checks, almanac: &Almanac, random: &mut Random, edition: u
         for ahead in multiples.chain([1_295_999]) {
             for beside in [0, 1, 1_295_999] {
                 let start = (place + ahead + beside) % 1_296_000;
-                query.arcs[SUN] = Some(Arc::new(start, 1));
+                query.arcs[SUN] = Arcs::one(Arc::new(start, 1));
                 compare(checks, almanac, random, &query, [day]);
             }
         }
@@ -203,10 +207,10 @@ fn order(checks: &mut Checks, almanac: &Almanac, random: &mut Random) {
 }
 
 /// Any conditions, some of them ill-formed, often with the span or the edition.
-fn refused(checks: &mut Checks, almanac: &Almanac, random: &mut Random, edition: u32) {
+fn refused(checks: &mut Checks, almanac: &Almanac, random: &mut Random, kind: Kind) {
     for _ in 0..4000 {
         let given = random.below(1 << 13);
-        let mut query = random_query(random, almanac, edition, given, 400);
+        let mut query = kind.draw(random, almanac, given, 400);
         spoil(random, &mut query);
         let days = days_about(random, (query.first, query.last));
         compare(checks, almanac, random, &query, days);
@@ -224,7 +228,7 @@ fn no_queries(checks: &mut Checks, random: &mut Random) {
 
 /// The walk made of looks, from the first day until past the last: its days, the fitting ones, and
 /// the numbers of both, which the search gives too.
-fn compare_walk(checks: &mut Checks, almanac: &Almanac, random: &mut Random, query: &Query) {
+pub fn compare_walk(checks: &mut Checks, almanac: &Almanac, random: &mut Random, query: &Query) {
     let bytes = encode(random, query);
     let found = query.search(almanac).expect("the query is well-formed");
     let (mut visited, mut matching) = (Vec::new(), Vec::new());
@@ -246,24 +250,28 @@ fn compare_walk(checks: &mut Checks, almanac: &Almanac, random: &mut Random, que
     checks.same("the walk's days", input, found.visited, visited);
 }
 
-/// Walks of all kinds: short ones with any conditions, long ones with few, Sun arcs whose starts are
-/// a whole number of jumps ahead, and the whole table.
-fn walks(checks: &mut Checks, almanac: &Almanac, random: &mut Random, edition: u32) {
-    for round in 0..3000 {
+/// Short walks with any conditions, and long ones with few.
+fn drawn_walks(checks: &mut Checks, almanac: &Almanac, random: &mut Random, kind: Kind) {
+    for round in kind.rounds(3000) {
         let given = match round % 3 {
             0 => random.below(1 << 13),
             1 => random.below(1 << 13) | 1 << 4,
             _ => 1 << random.below(13) | 1 << 4,
         };
         let most = if round % 100 == 0 { LAST_DAY + 1 } else { 1000 };
-        let query = random_query(random, almanac, edition, given, most);
+        let query = kind.draw(random, almanac, given, most);
         compare_walk(checks, almanac, random, &query);
     }
+}
+
+/// Walks with one Sun arc, whose start is a whole number of jumps ahead or anywhere, and over the whole
+/// table.
+fn walks(checks: &mut Checks, almanac: &Almanac, random: &mut Random, edition: u32) {
     for _ in 0..1000 {
         let (first, last) = random_span(random, 2000);
         let mut query = Query::without_conditions(first, last);
         query.edition = edition;
-        query.arcs[SUN] = Some(if random.once_in(3) {
+        query.arcs[SUN] = Arcs::one(if random.once_in(3) {
             random_arc(random)
         } else {
             arc_ahead(random, almanac, first)
@@ -274,17 +282,20 @@ fn walks(checks: &mut Checks, almanac: &Almanac, random: &mut Random, edition: u
     query.edition = edition;
     compare_walk(checks, almanac, random, &query);
     for (start, width) in [(0, 1), (0, 3600), (1_295_000, 108_000), (77, 1_296_000)] {
-        query.arcs[SUN] = Some(Arc::new(start, width));
+        query.arcs[SUN] = Arcs::one(Arc::new(start, width));
         compare_walk(checks, almanac, random, &query);
     }
 }
 
 pub fn run(checks: &mut Checks, almanac: &Almanac) {
     let mut random = Random::from_seed();
+    for kind in Kind::all() {
+        combinations(checks, almanac, &mut random, kind);
+        refused(checks, almanac, &mut random, kind);
+        drawn_walks(checks, almanac, &mut random, kind);
+    }
     for edition in EDITIONS {
-        combinations(checks, almanac, &mut random, edition);
         jumps(checks, almanac, &mut random, edition);
-        refused(checks, almanac, &mut random, edition);
         walks(checks, almanac, &mut random, edition);
     }
     every_day(checks, almanac, &mut random);

@@ -22,6 +22,7 @@ pub mod queries;
 pub mod query_bytes;
 pub mod saka;
 pub mod searches;
+pub mod smudged;
 pub mod worked;
 
 /// The editions that there are.

@@ -41,7 +41,7 @@ pub const EDITION_LINES: [&str; 6] = [
 ];
 
 /// Conditions that are accepted, but for the bodies'.
-pub const VALUES: [&str; 19] = [
+pub const VALUES: [&str; 30] = [
     "weekday 0",
     "weekday 6",
     "weekday 000000003",
@@ -61,10 +61,21 @@ pub const VALUES: [&str; 19] = [
     "yoga 0",
     "yoga 26",
     "yoga 01",
+    "weekday monday tuesday",
+    "weekday 1 2",
+    "weekday 6 0",
+    "weekday sunday 0",
+    "weekday 3 monday 000000006",
+    "weekday 00 01",
+    "weekday 0 1 2 3 4 5 6",
+    "weekday 6 5 4 3 2 1 0",
+    "weekday monday tuesday wednesday thursday friday saturday sunday",
+    "weekday 6 monday 4 tuesday 2 3 saturday",
+    "weekday sunday friday 2 0",
 ];
 
-/// Arcs that are accepted.
-pub const ARCS: [&str; 7] = [
+/// Arcs that are accepted, one and two.
+pub const ARCS: [&str; 11] = [
     "0 1296000",
     "1295999 1",
     "359:59:59 360:0:0",
@@ -72,10 +83,14 @@ pub const ARCS: [&str; 7] = [
     "1000000 000600000",
     "00300:000000059:059 0000000:0:000000001",
     "270:30:30 90:59:59",
+    "0 3600 7200 3600",
+    "359:59:59 2 1295999 000000002",
+    "1295999 1296000 180:0:0 1",
+    "270:30:30 90:59:59 350:0:0 20:0:0",
 ];
 
 /// Refused with 3. Some words are joined by what is no blank.
-pub const OTHER_FORMS: [&str; 121] = [
+pub const OTHER_FORMS: [&str; 180] = [
     "Span 10 20",
     "SPAN 10 20",
     "spans 10 20",
@@ -109,14 +124,11 @@ pub const OTHER_FORMS: [&str; 121] = [
     "Weekday 1",
     "weekdays 1",
     "weekday",
-    "weekday 1 2",
     "weekday Monday",
     "weekday SUNDAY",
     "weekday mon",
     "weekday mondays",
     "weekday 1.",
-    "weekday 7 7",
-    "weekday monday tuesday",
     "tithi",
     "tithi 3 4",
     "tithi 30 30",
@@ -197,6 +209,68 @@ pub const OTHER_FORMS: [&str; 121] = [
     "edition 1234567890",
     "edition 4294967298",
     "2 edition",
+    "weekday 1 1",
+    "weekday monday monday",
+    "weekday monday 0",
+    "weekday 6 sunday",
+    "weekday 0 00",
+    "weekday 1 2 3 1",
+    "weekday 9 1 1",
+    "weekday 1 9 1",
+    "weekday 1 1 9",
+    "weekday 9 9 1 tuesday",
+    "weekday sunday 6 9",
+    "weekday 0 1 2 3 4 5 5",
+    "weekday x 1",
+    "weekday 1 9 x",
+    "weekday 9 x",
+    "weekday monday mon",
+    "weekday monday Tuesday",
+    "weekday monday, tuesday",
+    "weekday monday-tuesday",
+    "weekday monday or tuesday",
+    "weekday 1-2 3",
+    "weekday 1 -2",
+    "weekday 1 0000000002",
+    "weekday 1 1234567890",
+    "weekday 7 1234567890",
+    "weekday 0 1 2 3 4 5 6 0",
+    "weekday 0 1 2 3 4 5 6 7",
+    "weekday 6 5 4 3 2 1 0 x",
+    "weekday 9 8 7 6 5 4 3 2",
+    "weekday 7 7 7 7 7 7 7 7",
+    "weekday x x x x x x x x",
+    "weekday monday tuesday wednesday thursday friday saturday sunday monday",
+    "sun 0 3600 7200",
+    "sun 1296000 1 5",
+    "sun 5 0 x",
+    "sun 0 3600 7200 x",
+    "sun 0 3600 x 3600",
+    "sun 0 x 7200 3600",
+    "sun x 3600 7200 3600",
+    "sun 1296000 1 5 x",
+    "sun 5 1:60:0 1296000 0",
+    "moon 0 3600 7200 3600 5",
+    "moon 0 0 0 0 0",
+    "moon 1 2 3 x 5",
+    "apogee 0 1 2 3 4 5",
+    "node 0 1 1:2 3",
+    "mars 0 3600 1000:0:0 5",
+    "mars 0 3600 5 1:0:60",
+    "mercury 0 3600 monday 5",
+    "jupiter 0 3600 0 3600 0 3600",
+    "venus 0 3600 -5 5",
+    "saturn 5 5 1234567890 5",
+    "tithi 3 4 5",
+    "tithi 30 30 30 30",
+    "nakshatra 1 2 3 4 5",
+    "yoga 1 2 3 4 5 6 7 8",
+    "span 10 20 30 40",
+    "edition 2 2 2",
+    "edition 3 3 3 3",
+    "rahu 1 2 3 4",
+    "karana 1 2 3 4 5 6 7 8",
+    "weekdays monday tuesday",
 ];
 
 /// Refused with 14.
@@ -273,7 +347,7 @@ pub const REVERSED: [&str; 7] = [
 ];
 
 /// Refused with 6.
-pub const BAD_CONDITIONS: [&str; 24] = [
+pub const BAD_CONDITIONS: [&str; 52] = [
     "weekday 7",
     "weekday 257",
     "weekday 999999999",
@@ -298,6 +372,34 @@ pub const BAD_CONDITIONS: [&str; 24] = [
     "venus 1296000 1296000",
     "saturn 0 0",
     "saturn 999999999 1",
+    "weekday 7 7",
+    "weekday 9 9",
+    "weekday 9 1",
+    "weekday monday 7",
+    "weekday 7 sunday 7",
+    "weekday 0 32",
+    "weekday 33 1",
+    "weekday 256 255",
+    "weekday 999999999 sunday",
+    "weekday 0 1 2 3 4 5 7",
+    "weekday 7 8 9 10 11 12 13",
+    "weekday 7 7 7 7 7 7 7",
+    "weekday 8 monday 007 tuesday 10 007 6",
+    "sun 0 3600 1296000 1",
+    "sun 0 3600 5 0",
+    "sun 0 3600 0 1296001",
+    "sun 1296000 1 0 3600",
+    "sun 5 0 0 3600",
+    "sun 0 1296001 0 3600",
+    "moon 0 0 0 0",
+    "moon 1:0:0 1:0:0 360:0:0 1:0:0",
+    "apogee 359:59:59 0:0:0 5 5",
+    "node 0 3600 999:59:59 1",
+    "mars 0 3600 0 360:0:1",
+    "mercury 0 3600 359:59:59 0:0:0",
+    "jupiter 1296000 0 0 1296001",
+    "venus 0 1296000 999999999 999999999",
+    "saturn 999999999 1 2 3",
 ];
 
 const BLANKS: [&str; 8] = [" ", " ", " ", "\t", "\r", "   ", " \t ", "\r \r"];
@@ -371,6 +473,17 @@ fn weekday(random: &mut Random, weekday: u32) -> String {
     }
 }
 
+/// The weekdays of a set, in any order.
+pub fn weekdays(random: &mut Random, set: u32) -> Vec<String> {
+    let mut left: Vec<u32> = (0..7).filter(|weekday| set >> weekday & 1 == 1).collect();
+    let mut values = Vec::new();
+    while !left.is_empty() {
+        let next = left.swap_remove(random.below(left.len() as u32) as usize);
+        values.push(weekday(random, next));
+    }
+    values
+}
+
 /// The lines that say a query.
 pub fn lines_of(random: &mut Random, almanac: &Almanac, query: &Query) -> Vec<Line> {
     let ends = [query.first, query.last].map(|end| day(random, almanac, end));
@@ -383,8 +496,8 @@ pub fn lines_of(random: &mut Random, almanac: &Almanac, query: &Query) -> Vec<Li
     if query.edition != 1 || random.once_in(2) {
         add("edition", vec![number(random, query.edition)]);
     }
-    if let Some(value) = query.weekday {
-        add("weekday", vec![weekday(random, value)]);
+    if let Some(set) = query.weekdays {
+        add("weekday", weekdays(random, set));
     }
     let limbs = [
         ("tithi", query.tithi),
@@ -396,12 +509,11 @@ pub fn lines_of(random: &mut Random, almanac: &Almanac, query: &Query) -> Vec<Li
             add(word, vec![number(random, value)]);
         }
     }
-    for (word, arc) in BODIES.into_iter().zip(query.arcs) {
-        if let Some(arc) = arc {
-            add(
-                word,
-                vec![angle(random, arc.start), angle(random, arc.width)],
-            );
+    for (word, arcs) in BODIES.into_iter().zip(query.arcs) {
+        let values = arcs.given().flat_map(|arc| [arc.start, arc.width]);
+        let values: Vec<String> = values.map(|value| angle(random, value)).collect();
+        if !values.is_empty() {
+            add(word, values);
         }
     }
     lines

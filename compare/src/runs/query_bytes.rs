@@ -1,12 +1,13 @@
-//! A query as the bridge takes it: 38 numbers of four bytes each, low byte first. They are first,
-//! last; then for weekday, tithi, nakshatra and yoga "given" (0 is no, any other number yes) and the
-//! value; then for each body "given", start and width; and last the edition.
+//! A query as the bridge takes it: 65 numbers of four bytes each, low byte first. They are first,
+//! last; then for the weekdays "given" (0 is no, any other number yes) and the set, and for tithi,
+//! nakshatra and yoga "given" and the value; then for each body its first arc's "given", start and
+//! width; then the edition; and last for each body its second arc's "given", start and width.
 
 use crate::random::Random;
-use crate::reference::search::Query;
+use crate::reference::search::{Arc, Query};
 
 /// Bytes of another length are refused with 3.
-pub const QUERY_LENGTH: usize = 152;
+pub const QUERY_LENGTH: usize = 260;
 
 /// "Given" and the numbers of a condition; where it isn't given the numbers are any.
 fn encode_condition<const N: usize>(
@@ -28,13 +29,19 @@ fn encode_condition<const N: usize>(
 
 pub fn encode(random: &mut Random, query: &Query) -> Vec<u8> {
     let mut numbers = vec![query.first, query.last];
-    for value in [query.weekday, query.tithi, query.nakshatra, query.yoga] {
+    for value in [query.weekdays, query.tithi, query.nakshatra, query.yoga] {
         encode_condition(random, &mut numbers, value.map(|value| [value]));
     }
-    for arc in query.arcs {
-        encode_condition(random, &mut numbers, arc.map(|arc| [arc.start, arc.width]));
+    let mut encode_arc = |numbers: &mut Vec<u32>, arc: Option<Arc>| {
+        encode_condition(random, numbers, arc.map(|arc| [arc.start, arc.width]));
+    };
+    for arcs in query.arcs {
+        encode_arc(&mut numbers, arcs.first);
     }
     numbers.push(query.edition);
+    for arcs in query.arcs {
+        encode_arc(&mut numbers, arcs.second);
+    }
     numbers.into_iter().flat_map(u32::to_le_bytes).collect()
 }
 

@@ -2,6 +2,8 @@
 //! against the second program alone, before it is compared with anything: so that both programs
 //! are held to the papers.
 
+use std::collections::BTreeSet;
+
 use crate::checks::Checks;
 use crate::reference::almanac::Almanac;
 use crate::reference::civil::Date;
@@ -12,8 +14,9 @@ use crate::reference::longitudes::{
 };
 use crate::reference::page::printed;
 use crate::reference::plate::plate;
+use crate::reference::refusal::result_number;
 use crate::reference::saka::SakaDate;
-use crate::reference::search::{Arc, Query};
+use crate::reference::search::{Arc, Arcs, Query};
 use crate::reference::sheet::day_sheet;
 
 const MONDAY: u32 = 0;
@@ -292,7 +295,7 @@ fn a_month_earlier(checks: &mut Checks) {
 /// "Days on both sides", the search: "days 0 to 729, Sun's arc from 0, width 3600".
 fn search(checks: &mut Checks, almanac: &Almanac) {
     let mut query = Query::without_conditions(0, 729);
-    query.arcs[SUN] = Some(Arc::new(0, 3600));
+    query.arcs[SUN] = Arcs::one(Arc::new(0, 3600));
     let input = || format!("{query:?}");
     let Ok(found) = query.search(almanac) else {
         return checks.same("the search is accepted", input, true, false);
@@ -316,6 +319,91 @@ fn search(checks: &mut Checks, almanac: &Almanac) {
         let came = came.map(|look| (look.matches, look.next));
         let input = || format!("day {day}, {query:?}");
         checks.same("the look", input, Ok((fits, next)), came);
+    }
+}
+
+/// L9: over the same days, searches with sets of weekdays and two Sun arcs, reckoned apart from both
+/// programs. The mean Sun is 1258860 on day 0, 1889 on day 11 (a Friday), 5438 on day 12, 651205 on day
+/// 194, and 1261490 on day 366.
+fn smudged(checks: &mut Checks, almanac: &Almanac) {
+    let degree = |start| Arc::new(start, 3600);
+    let with = |second| Arcs::two(degree(0), second);
+    let opposite = with(degree(648_000));
+    let paper: &[u32] = &[0, 11, 12, 376, 377];
+    let twice: &[u32] = &[0, 11, 12, 194, 195, 376, 377, 559, 560];
+    let cases: [(Arcs, Option<u32>, &[u32], &[u32]); 9] = [
+        (with(degree(0)), None, &[11, 376], paper),
+        (with(Arc::new(1_295_000, 1000)), None, &[11, 376], paper),
+        (Arcs::second_alone(degree(0)), None, &[11, 376], paper),
+        (opposite, None, &[11, 194, 376, 559], twice),
+        (opposite, Some(0b111_1111), &[11, 194, 376, 559], twice),
+        (opposite, Some(0b001_1000), &[11], twice),
+        (opposite, Some(0b000_0001), &[], twice),
+        (
+            with(Arc::new(1_258_860, 1)),
+            None,
+            &[0, 11, 376],
+            &[0, 1, 11, 12, 366, 376, 377],
+        ),
+        (
+            with(degree(3600)),
+            None,
+            &[11, 12, 376, 377],
+            &[0, 11, 12, 13, 376, 377, 378],
+        ),
+    ];
+    for (arcs, weekdays, matching, visited) in cases {
+        let mut query = Query::without_conditions(0, 729);
+        query.arcs[SUN] = arcs;
+        query.weekdays = weekdays;
+        let input = || format!("{query:?}");
+        let expected = Ok((matching.to_vec(), visited.to_vec()));
+        let came = query.search(almanac);
+        let came = came.map(|found| (found.matching, found.visited));
+        checks.same("the list, and looked at", input, expected, came);
+    }
+    for (set, refusal) in [
+        (0, 6),
+        (1, 0),
+        (127, 0),
+        (128, 6),
+        (129, 6),
+        (1 << 31, 6),
+        (u32::MAX, 6),
+    ] {
+        let mut query = Query::without_conditions(0, 6);
+        query.weekdays = Some(set);
+        let input = || format!("{query:?}");
+        let came = result_number(&query.search(almanac));
+        checks.same("a set of weekdays", input, refusal, came);
+    }
+}
+
+/// L9: "either of which will do". The list of two arcs is that of the one and that of the other
+/// together, for each body; and the list of a set is those of its weekdays.
+fn either(checks: &mut Checks, almanac: &Almanac) {
+    let listed = |ask: &dyn Fn(&mut Query)| {
+        let mut query = Query::without_conditions(3000, 5000);
+        ask(&mut query);
+        let found = query.search(almanac).expect("the query is well-formed");
+        BTreeSet::from_iter(found.matching)
+    };
+    for body in 0..9 {
+        for start in [0, 100_000, 200_000, 350_000, 1_100_000] {
+            let [one, other] = [Arc::new(100_000, 250_000), Arc::new(start, 200_000)];
+            let [of_one, of_other, of_both] =
+                [Arcs::one(one), Arcs::one(other), Arcs::two(one, other)]
+                    .map(|arcs| listed(&|query| query.arcs[body] = arcs));
+            let input = || format!("body {body}, {one:?} and {other:?}");
+            checks.same("either arc will do", input, &of_one | &of_other, of_both);
+        }
+    }
+    for set in 1..128 {
+        let in_set = |day: &u32| set >> (day % 7) & 1 == 1;
+        let expected = (3000..=5000).filter(in_set).collect();
+        let came = listed(&|query| query.weekdays = Some(set));
+        let input = || format!("set {set}");
+        checks.same("each weekday of the set will do", input, expected, came);
     }
 }
 
@@ -349,8 +437,8 @@ fn epoch_plate(checks: &mut Checks, almanac: &Almanac) {
     checks.same("the plate", input, expected.to_string(), came);
 }
 
-/// "Days on both sides" as pages: the limbs of two days, and the search's beginning; and L8's day 2,
-/// whose tithi differs from edition to edition.
+/// "Days on both sides" as pages: the limbs of two days, and the search's beginning; L8's day 2, whose
+/// tithi differs from edition to edition; and L9's sets and second arcs.
 fn pages(checks: &mut Checks, almanac: &Almanac) {
     let heading = "day date weekday tithi nakshatra yoga karana";
     let cases = [
@@ -384,6 +472,11 @@ fn pages(checks: &mut Checks, almanac: &Almanac) {
             "found 0 looked 1 edition 2",
             "",
         ),
+        (
+            "span 0 729\nsun 0 1:0:0 180:0:0 1:0:0\nweekday thursday 4\n",
+            "found 1 looked 9",
+            "11 1520-3-30 friday ",
+        ),
     ];
     for (page, counts, days) in cases {
         let expected = format!("{counts}\n{heading}\n{days}");
@@ -398,6 +491,16 @@ fn pages(checks: &mut Checks, almanac: &Almanac) {
         ("edition 2 2\n", 3),
         ("edition 3\n", 14),
         ("x\nspan 9 5\nedition 14\n", 14),
+        ("weekday\n", 3),
+        ("weekday 1 tuesday\n", 3),
+        ("weekday 9 1 1\n", 3),
+        ("weekday 9 9\n", 6),
+        ("weekday 0 1 2 3 4 5 9\n", 6),
+        ("weekday 9 9 9 9 9 9 9 9\n", 3),
+        ("sun 0 3600 7200\n", 3),
+        ("sun 0 3600 7200 0\n", 6),
+        ("sun 0 0 7200 3600\n", 6),
+        ("sun 0 3600 7200 3600 0\n", 3),
     ] {
         let expected = format!("refused {refusal}\n");
         let came = printed(almanac, page.as_bytes()).output;
@@ -415,6 +518,8 @@ pub fn run(checks: &mut Checks, almanac: &Almanac) {
     saka_dates(checks);
     a_month_earlier(checks);
     search(checks, almanac);
+    smudged(checks, almanac);
+    either(checks, almanac);
     sheet(checks, almanac);
     epoch_plate(checks, almanac);
     pages(checks, almanac);

@@ -1,16 +1,18 @@
--- A query as bytes: 38 numbers, as the entries of a list are.
+-- A query as bytes: 65 numbers, as the entries of a list are.
 -- Assumes nothing.
 use mathlib.Core.Bool.{Bool, not}
 use mathlib.Core.List.{List, [], _∷_, map}
 use Prim.Native.Nat.{ℕ, _+_}
 use lib.Dec.{eqb}
 use Rattle.query.specs.declared.Asked.{Asked}
+use Rattle.query.specs.declared.Weekdays.{Weekdays}
 use Rattle.query.specs.declared.Arc.{Arc}
+use Rattle.query.specs.declared.BodyArcs.{BodyArcs}
 use Rattle.query.specs.declared.Query.{Query}
 use Rattle.entries.specs.Entries.{entryAt}
 
 abbrev pub queryBytes : ℕ
-queryBytes = 152
+queryBytes = 260
 
 -- number k of the bytes
 abbrev pub numberFrom : List ℕ → ℕ → ℕ
@@ -20,6 +22,10 @@ numberFrom bytes k = entryAt bytes k .number
 abbrev pub givenFrom : List ℕ → ℕ → Bool
 givenFrom bytes k = not (eqb (numberFrom bytes k) 0)
 
+-- given, set
+unfoldable pub weekdaysFrom : List ℕ → Weekdays
+weekdaysFrom bytes = record { given = givenFrom bytes 2; set = numberFrom bytes 3 }
+
 -- given, value
 unfoldable pub askedFrom : List ℕ → ℕ → Asked
 askedFrom bytes k = record { given = givenFrom bytes k; value = numberFrom bytes (k + 1) }
@@ -28,18 +34,22 @@ askedFrom bytes k = record { given = givenFrom bytes k; value = numberFrom bytes
 unfoldable pub arcFrom : List ℕ → ℕ → Arc
 arcFrom bytes k = record { given = givenFrom bytes k; start = numberFrom bytes (k + 1); width = numberFrom bytes (k + 2) }
 
--- the nine arcs in the order of the bodies
-unfoldable pub arcsFrom : List ℕ → List Arc
-arcsFrom bytes = map (arcFrom bytes) (10 ∷ 13 ∷ 16 ∷ 19 ∷ 22 ∷ 25 ∷ 28 ∷ 31 ∷ 34 ∷ [])
+-- the first arc at place k, the second 28 numbers behind it
+unfoldable pub bodyArcsFrom : List ℕ → ℕ → BodyArcs
+bodyArcsFrom bytes k = record { first = arcFrom bytes k; second = arcFrom bytes (k + 28) }
 
--- first and last day, weekday, tithi, nakshatra, yoga, the arcs, and the edition
+-- the arcs in the order of the bodies
+unfoldable pub arcsFrom : List ℕ → List BodyArcs
+arcsFrom bytes = map (bodyArcsFrom bytes) (10 ∷ 13 ∷ 16 ∷ 19 ∷ 22 ∷ 25 ∷ 28 ∷ 31 ∷ 34 ∷ [])
+
+-- first and last day, weekdays, tithi, nakshatra, yoga, the first arcs, the edition, and the second arcs
 unfoldable pub queryFrom : List ℕ → Query
 queryFrom bytes =
     record {
       first = numberFrom bytes 0;
       last = numberFrom bytes 1;
       edition = numberFrom bytes 37;
-      weekday = askedFrom bytes 2;
+      weekdays = weekdaysFrom bytes;
       tithi = askedFrom bytes 4;
       nakshatra = askedFrom bytes 6;
       yoga = askedFrom bytes 8;

@@ -1,5 +1,5 @@
-// The general search, the look, the catalogue's pieces, the mean longitudes and the elements as C calls, for comparison runs and not for hosts: a query comes as 152 bytes, 38 numbers of four, low byte first.
-// They are the first and the last day; for weekday, tithi, nakshatra and yoga: given (0 no, any other number yes) and value; for each body: given, start and width; and the edition.
+// The general search, the look, the catalogue's pieces, the mean longitudes and the elements as C calls, for comparison runs and not for hosts: a query comes as 260 bytes, 65 numbers of four, low byte first.
+// They are the first and the last day; for weekdays, tithi, nakshatra and yoga: given (0 no, any other number yes) and set or value; for each body its first arc: given, start and width; the edition; and for each body its second arc.
 mod bodies;
 mod elements;
 mod looks;
@@ -9,16 +9,18 @@ use days::Day;
 use days::refusal;
 use query::Arc;
 use query::Asked;
+use query::BodyArcs;
 use query::Query;
+use query::Weekdays;
 use search::Found;
 ghost use mathlib.Core.Path.{_≡_};
 ghost use Prim.Native.Nat.{_<_};
 ghost use Rattle.days.specs.Days.{pairAt};
-ghost use Rattle.bridge.specs.Bytes.{numberFrom, askedFrom, arcFrom, arcsFrom, queryFrom};
+ghost use Rattle.bridge.specs.Bytes.{numberFrom, weekdaysFrom, askedFrom, arcFrom, bodyArcsFrom, arcsFrom, queryFrom};
 ghost use Rattle.bridge.specs.Answers.{bridgeResult, bridgeList, bridgeLength, bridgeLooked};
 ghost use Rattle.bridge.specs.Numbers.{BridgeMeasured};
 
-const QUERY_BYTES: usize = 152;
+const QUERY_BYTES: usize = 260;
 
 // Past the last day the pair is out of range, and refused.
 fn pair(day: u32) -> Day
@@ -36,6 +38,14 @@ fn number(query: &[u8], place: usize) -> u32
     entries::entry_at(query, place).number
 }
 
+fn weekdays(query: &[u8]) -> Weekdays
+    ensures { λ r. ⌜ r ≡ weekdaysFrom (now (query .entry)) ⌝ }
+{
+    let given = number(query, 2) != 0;
+    let set = number(query, 3);
+    Weekdays { given, set }
+}
+
 fn asked(query: &[u8], place: usize) -> Asked
     requires { ⌜ place < 36 ⌝ }
     ensures { λ r. ⌜ r ≡ askedFrom (now (query .entry)) place ⌝ }
@@ -46,7 +56,7 @@ fn asked(query: &[u8], place: usize) -> Asked
 }
 
 fn arc(query: &[u8], place: usize) -> Arc
-    requires { ⌜ place < 35 ⌝ }
+    requires { ⌜ place < 63 ⌝ }
     ensures { λ r. ⌜ r ≡ arcFrom (now (query .entry)) place ⌝ }
 {
     let given = number(query, place) != 0;
@@ -59,19 +69,29 @@ fn arc(query: &[u8], place: usize) -> Arc
     }
 }
 
-fn arcs(query: &[u8]) -> [Arc; 9]
+// The first of a body's arcs is at a place, the second 28 numbers behind it.
+fn body_arcs(query: &[u8], place: usize) -> BodyArcs
+    requires { ⌜ place < 35 ⌝ }
+    ensures { λ r. ⌜ r ≡ bodyArcsFrom (now (query .entry)) place ⌝ }
+{
+    let first = arc(query, place);
+    let second = arc(query, place + 28);
+    BodyArcs { first, second }
+}
+
+fn arcs(query: &[u8]) -> [BodyArcs; 9]
     ensures { λ r. ⌜ r ≡ arcsFrom (now (query .entry)) ⌝ }
 {
     [
-        arc(query, 10),
-        arc(query, 13),
-        arc(query, 16),
-        arc(query, 19),
-        arc(query, 22),
-        arc(query, 25),
-        arc(query, 28),
-        arc(query, 31),
-        arc(query, 34),
+        body_arcs(query, 10),
+        body_arcs(query, 13),
+        body_arcs(query, 16),
+        body_arcs(query, 19),
+        body_arcs(query, 22),
+        body_arcs(query, 25),
+        body_arcs(query, 28),
+        body_arcs(query, 31),
+        body_arcs(query, 34),
     ]
 }
 
@@ -80,7 +100,7 @@ fn query_of(query: &[u8]) -> Query
 {
     let first = number(query, 0);
     let last = number(query, 1);
-    let weekday = asked(query, 2);
+    let weekdays = weekdays(query);
     let tithi = asked(query, 4);
     let nakshatra = asked(query, 6);
     let yoga = asked(query, 8);
@@ -90,7 +110,7 @@ fn query_of(query: &[u8]) -> Query
         first,
         last,
         edition,
-        weekday,
+        weekdays,
         tithi,
         nakshatra,
         yoga,

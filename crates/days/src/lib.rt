@@ -3,6 +3,7 @@ pub mod refusal;
 
 ghost use mathlib.Core.Path.{_≡_};
 ghost use Rattle.days.specs.Days.{theNumber, noNumber, inRange, dayOf, pairOf, numberOf, julianDayOf, weekdayOf, nextOf};
+ghost use Rattle.days.specs.Weekdays.{bitOf, inSet};
 
 // A cycle from 0 to 99 and a day within it from 0 to 4015: paper 01's pair (C, A). Any other pair is refused wherever it is taken.
 pub struct Day {
@@ -177,4 +178,21 @@ impl Day {
             NO_DAY
         }
     }
+}
+
+// A weekday's bit in a set of weekdays, Monday's the lowest. A number that is no weekday has the bit behind the seven, which makes any set one that is refused.
+pub fn weekday_bit(weekday: u32) -> u32
+    ensures { λ r. ⌜ r ≡ bitOf weekday ⌝ }
+{
+    if weekday < 7 { 1 << weekday } else { 128 }
+}
+
+// Whether a set of weekdays has a weekday. It has no other number.
+pub fn set_has(set: u32, weekday: u32) -> bool
+    ensures { λ r. ⌜ r ≡ inSet set weekday ⌝ }
+{
+    if 6 < weekday {
+        return false;
+    }
+    (set >> weekday) % 2 == 1
 }

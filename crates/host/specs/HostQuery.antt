@@ -1,4 +1,4 @@
--- The host's query: a Sun arc and a weekday, both always, and no other condition.
+-- The host's query: one Sun arc and one weekday, both always, and no other condition.
 -- Assumes nothing.
 use mathlib.Core.Bool.{true}
 use mathlib.Core.List.{_∷_}
@@ -6,7 +6,7 @@ use Prim.Native.Nat.{ℕ}
 use lib.ListN.{replicate}
 use Rattle.panchanga.specs.TrueLongitudes.{firstEdition}
 use Rattle.query.specs.declared.Query.{Query}
-use Rattle.query.specs.Conditions.{notAsked, noArc}
+use Rattle.query.specs.Conditions.{notAsked, onlyWeekday, onlyArc, noArcs}
 
 unfoldable pub hostQuery : ℕ → ℕ → ℕ → ℕ → ℕ → Query
 hostQuery first last start width weekday =
@@ -14,9 +14,9 @@ hostQuery first last start width weekday =
       first = first;
       last = last;
       edition = firstEdition;
-      weekday = record { given = true; value = weekday };
+      weekdays = onlyWeekday weekday;
       tithi = notAsked;
       nakshatra = notAsked;
       yoga = notAsked;
-      arcs = record { given = true; start = start; width = width } ∷ replicate 8 noArc;
+      arcs = onlyArc (record { given = true; start = start; width = width }) ∷ replicate 8 noArcs;
     }

@@ -2,16 +2,17 @@
 use panchanga::FIRST_EDITION;
 use query::Arc;
 use query::Asked;
+use query::BodyArcs;
 use query::Query;
+use query::Weekdays;
 use search::Found;
 ghost use mathlib.Core.Path.{_≡_};
 ghost use Prim.Native.Nat.{_≤_};
 ghost use lib.ListN.{length};
 ghost use Rattle.entries.specs.Entries.{capacity};
 ghost use Rattle.search.specs.Days.{matchingDays, visitedDays, visitLimit};
-ghost use Rattle.search.specs.Search.{resultOf, unlessRefused, listAfter};
+ghost use Rattle.search.specs.Search.{resultOf, unlessRefused, listAfter, Measured};
 ghost use Rattle.host.specs.HostQuery.{hostQuery};
-ghost use Rattle.host.specs.HostNumbers.{HostMeasured};
 
 fn query_of(first: u32, last: u32, start: u32, width: u32, weekday: u32) -> Query
     ensures { λ r. ⌜ r ≡ hostQuery first last start width weekday ⌝ }
@@ -21,26 +22,15 @@ fn query_of(first: u32, last: u32, start: u32, width: u32, weekday: u32) -> Quer
         start,
         width,
     };
-    let weekday = Asked {
-        given: true,
-        value: weekday,
-    };
-    let arcs = [
-        sun,
-        Arc::NONE,
-        Arc::NONE,
-        Arc::NONE,
-        Arc::NONE,
-        Arc::NONE,
-        Arc::NONE,
-        Arc::NONE,
-        Arc::NONE,
-    ];
+    let sun = BodyArcs::only(sun);
+    let weekdays = Weekdays::only(weekday);
+    let mut arcs = [BodyArcs::NONE; 9];
+    arcs[0] = sun;
     Query {
         first,
         last,
         edition: FIRST_EDITION,
-        weekday,
+        weekdays,
         tithi: Asked::NONE,
         nakshatra: Asked::NONE,
         yoga: Asked::NONE,
@@ -48,7 +38,7 @@ fn query_of(first: u32, last: u32, start: u32, width: u32, weekday: u32) -> Quer
     }
 }
 
-// The refusal, or 0 with the matching days written to the list: four bytes a day, low byte first.
+// The refusal, or 0 with the matching days written to the list: four bytes a day, low byte first. (The query is written out here once more: from `query_of` it would stand on the stack twice.)
 #[no_mangle]
 pub extern "C" fn graha_search(
     first: u32,
@@ -61,13 +51,33 @@ pub extern "C" fn graha_search(
     ensures { λ r. ⌜ r ≡ resultOf (hostQuery first last start width weekday) (capacity (now (list .entry))) ⌝ }
     ensures { λ _. ⌜ now (list .exit) ≡ listAfter (hostQuery first last start width weekday) (now (list .entry)) ⌝ }
 {
-    let query = query_of(first, last, start, width, weekday);
-    search::search(query, list).refusal
+    let sun = Arc {
+        given: true,
+        start,
+        width,
+    };
+    let sun = BodyArcs::only(sun);
+    let weekdays = Weekdays::only(weekday);
+    let mut arcs = [BodyArcs::NONE; 9];
+    arcs[0] = sun;
+    search::search(
+        Query {
+            first,
+            last,
+            edition: FIRST_EDITION,
+            weekdays,
+            tithi: Asked::NONE,
+            nakshatra: Asked::NONE,
+            yoga: Asked::NONE,
+            arcs,
+        },
+        list,
+    ).refusal
 }
 
 // The two numbers of a search, whatever list it is lent.
 fn measured(first: u32, last: u32, start: u32, width: u32, weekday: u32) -> Found
-    ensures { λ r. ⌜ HostMeasured (hostQuery first last start width weekday) r ⌝ }
+    ensures { λ r. ⌜ Measured (hostQuery first last start width weekday) r ⌝ }
 {
     search::measure(query_of(first, last, start, width, weekday))
 }

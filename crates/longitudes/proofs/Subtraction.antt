@@ -3,6 +3,7 @@
 use mathlib.Core.Path.{_≡_, _∙_}
 use Prim.Native.Nat.{ℕ, _+_, _*_, _-_, _/_, _%_, _≤_, _<_}
 use native.Mathlib.Omega.{arith}
+use native.Mathlib.Decide.{decLe}
 use lib.IntN.{pos, _-ℤ_}
 use Rattle.integers.proofs.Less.{less-pos, less-minus}
 use Rattle.integers.proofs.Reduced.{less-reduced, reduced-small}
@@ -30,3 +31,12 @@ difference-back a b h = difference-by a b (a + b / circle * circle - b) (b / cir
 
 pub difference-over : (a b : ℕ) → a % circle < b % circle → differenceOf a b ≡ a % circle + circle - b % circle
 difference-over a b h = difference-by a b (a + (b / circle + 1) * circle - b) (b / circle + 1) (omega arith) ∙ omega arith
+
+-- the way back is the rest of the circle
+pub difference-turned : (x a b : ℕ) → x ≡ differenceOf a b → 0 < x → differenceOf b a ≡ circle - x
+difference-turned x a b e h = go (decLe (b % circle) (a % circle)) (decLe (a % circle) (b % circle))
+  where
+    go : Dec (b % circle ≤ a % circle) → Dec (a % circle ≤ b % circle) → differenceOf b a ≡ circle - x
+    go (yes l) (yes m) = absurd (omega (arith, difference-back a b l))
+    go (yes l) (no m) = omega (arith, difference-back a b l, difference-over b a (omega arith))
+    go (no l) m = omega (arith, difference-over a b (omega arith), difference-back b a (omega arith))

@@ -14,20 +14,22 @@ use Rattle.days.specs.Refusals.{badInput}
 use Rattle.days.specs.Days.{lastDay}
 use Rattle.panchanga.specs.TrueLongitudes.{firstEdition, isEdition}
 use Rattle.query.specs.declared.Asked.{Asked}
-use Rattle.query.specs.declared.Arc.{Arc}
+use Rattle.query.specs.declared.Weekdays.{Weekdays}
+use Rattle.query.specs.declared.BodyArcs.{BodyArcs}
 use Rattle.query.specs.declared.Query.{Query}
-use Rattle.query.specs.Conditions.{askedInRange, arcAt, arcInRange, arcsInRange, conditionsInRange, notAsked, noArc}
+use Rattle.query.specs.Conditions.{askedInRange, weekdaysInRange, arcsAt, arcInRange, bodyArcsInRange, arcsInRange, conditionsInRange, notAsked, noWeekdays, noArcs}
 use Rattle.query.specs.Query.{refusalOf}
 use Rattle.query.proofs.Conditions.{arcs-true, arcs-false}
 use Rattle.query.proofs.Accepted.{accepted-by}
 use Rattle.text.specs.Lines.{newline}
-use Rattle.values.proofs.Refusals.{either, OfReading, number-refusal, day-refusal, angle-refusal, weekday-refusal, none-refusal}
-use Rattle.words.specs.Words.{pieces, placeIn}
+use Rattle.values.proofs.Refusals.{either, OfReading, number-refusal, day-refusal, weekdays-refusal, none-refusal}
+use Rattle.words.specs.Words.{firstWord, afterWord, afterWords, pieces, placeIn}
 use Rattle.page.specs.Names.{keywords}
+use Rattle.page.specs.declared.Values.{Values}
 use Rattle.page.specs.declared.LineRead.{LineRead}
 use Rattle.page.specs.declared.Fault.{Fault}
 use Rattle.page.specs.declared.Page.{Page}
-use Rattle.page.specs.Page.{spanKeyword, weekdayKeyword, tithiKeyword, nakshatraKeyword, yogaKeyword, editionKeyword, arcKeywords, keywordCount, everyDay, withCondition, rankOf, ranksBefore, firstRefusal, firstValue, secondValue, unknownWord, manyValues, malformedLine, blankLine, conditionRead, wordsRead, lineRead, firstFault, withFault, withLine, withLines, emptyPage, pageAnswer, pageRead}
+use Rattle.page.specs.Page.{spanKeyword, weekdayKeyword, tithiKeyword, nakshatraKeyword, yogaKeyword, editionKeyword, arcKeywords, keywordCount, everyDay, withCondition, rankOf, ranksBefore, firstRefusal, firstValue, secondValue, numbersRead, arcRead, secondArcRead, arcsRead, mostValues, valuesRead, unknownWord, manyValues, malformedLine, blankLine, conditionRead, wordsRead, lineRead, firstFault, withFault, withLine, withLines, emptyPage, pageAnswer, pageRead}
 
 -- a refusal that has a rank
 abbrev Ranked : ℕ → Type 0
@@ -48,22 +50,38 @@ ranked-read (suc (suc zero)) h = ranked-all .1
 ranked-read (suc (suc (suc zero))) h = ranked-all .2
 ranked-read (suc (suc (suc (suc r)))) h = absurd (omega arith)
 
-first-value-read : (k : ℕ) (w : List ℕ) → OfReading (firstValue k w)
-unfolding firstValue
-first-value-read k w =
-    either OfReading (eqb k spanKeyword) (day-refusal w)
-    (either OfReading (eqb k weekdayKeyword) (weekday-refusal w)
-    (either OfReading (ltb k arcKeywords) (number-refusal w) (angle-refusal w)))
-
-second-value-read : (k : ℕ) (w : List ℕ) → OfReading (secondValue k w)
-unfolding secondValue
-second-value-read k w =
-    either OfReading (eqb k spanKeyword) (day-refusal w)
-    (either OfReading (ltb k arcKeywords) (none-refusal w) (angle-refusal w))
-
 first-refusal-ranked : (r t : ℕ) → Ranked r → Ranked t → Ranked (firstRefusal r t)
 unfolding firstRefusal ranksBefore
 first-refusal-ranked r t kr kt = either Ranked (ltb (rankOf t) (rankOf r)) kt kr
+
+-- the values of a line
+abbrev RankedValues : Values → Type 0
+RankedValues v = Ranked (v .refusal)
+
+numbers-ranked : (a b : NumberAnswer) → OfReading a → OfReading b → RankedValues (numbersRead a b)
+unfolding numbersRead
+numbers-ranked a b ka kb =
+    either RankedValues (eqb (firstRefusal (a .refusal) (b .refusal)) 0) ranked-0
+    (first-refusal-ranked (a .refusal) (b .refusal) (ranked-read _ ka) (ranked-read _ kb))
+
+first-value-read : (k : ℕ) (w : List ℕ) → OfReading (firstValue k w)
+unfolding firstValue
+first-value-read k w = either OfReading (eqb k spanKeyword) (day-refusal w) (number-refusal w)
+
+second-value-read : (k : ℕ) (w : List ℕ) → OfReading (secondValue k w)
+unfolding secondValue
+second-value-read k w = either OfReading (eqb k spanKeyword) (day-refusal w) (none-refusal w)
+
+values-ranked : (k : ℕ) (t : List ℕ) → RankedValues (valuesRead k t)
+unfolding valuesRead arcsRead
+values-ranked k t =
+    either RankedValues (eqb k weekdayKeyword) (numbers-ranked _ _ (weekdays-refusal 7 0 t) (omega arith))
+    (either RankedValues (ltb k arcKeywords)
+    (numbers-ranked _ _ (first-value-read k (firstWord t)) (second-value-read k (firstWord (afterWord t))))
+    (either RankedValues
+    (arcRead (firstWord t) (firstWord (afterWord t)) .read && secondArcRead (firstWord (afterWords 2 t)) (firstWord (afterWords 3 t)) .read)
+    ranked-0
+    (ranked-all .2)))
 
 query-ranked : (q : Query) → Ranked (refusalOf q)
 unfolding refusalOf
@@ -77,7 +95,7 @@ query-ranked q =
 -- a line's refusal has a rank, and a condition that it does not refuse is not refused alone
 record SoundLine (l : LineRead) : Type 0 where
   ranked : Ranked (l .refusal)
-  alone : l .refusal ≡ 0 → l .keyword < keywordCount → refusalOf (withCondition everyDay (l .keyword) (l .first) (l .second)) ≡ 0
+  alone : l .refusal ≡ 0 → l .keyword < keywordCount → refusalOf (withCondition everyDay (l .keyword) (l .values)) ≡ 0
 
 blank-sound : SoundLine blankLine
 blank-sound = record { ranked = ranked-0; alone = λ r k. absurd (omega arith) }
@@ -85,38 +103,30 @@ blank-sound = record { ranked = ranked-0; alone = λ r k. absurd (omega arith) }
 malformed-sound : (why : ℕ) → SoundLine (malformedLine why)
 malformed-sound why = record { ranked = ranked-all .2; alone = λ r k. absurd (omega arith) }
 
-condition-sound : (k : ℕ) (a b : NumberAnswer) → OfReading a → OfReading b → SoundLine (conditionRead k a b)
+condition-sound : (k : ℕ) (v : Values) → RankedValues v → SoundLine (conditionRead k v)
 unfolding conditionRead
-condition-sound k a b ka kb =
-    either SoundLine (eqb (firstRefusal (a .refusal) (b .refusal)) 3) (malformed-sound _)
-    (go (eqb (firstRefusal (a .refusal) (b .refusal)) 0) refl)
+condition-sound k v kv = either SoundLine (eqb (v .refusal) 3) (malformed-sound _) (go (eqb (v .refusal) 0) refl)
   where
-    both : Ranked (firstRefusal (a .refusal) (b .refusal))
-    both = first-refusal-ranked (a .refusal) (b .refusal) (ranked-read _ ka) (ranked-read _ kb)
-
     go :
         (t : Bool) →
-        eqb (firstRefusal (a .refusal) (b .refusal)) 0 ≡ t →
-        SoundLine
-        (cond t
-        (record { refusal = refusalOf (withCondition everyDay k (a .number) (b .number)); reason = 0; keyword = k; first = a .number; second = b .number })
-        (record { refusal = firstRefusal (a .refusal) (b .refusal); reason = 0; keyword = k; first = 0; second = 0 }))
+        eqb (v .refusal) 0 ≡ t →
+        SoundLine (record { refusal = cond t (refusalOf (withCondition everyDay k v)) (v .refusal); reason = 0; keyword = k; values = v })
     go true e = record { ranked = query-ranked _; alone = λ r _. r }
-    go false e = record { ranked = both; alone = λ r _. absurd (eqb-false _ _ e r) }
+    go false e = record { ranked = kv; alone = λ r _. absurd (eqb-false _ _ e r) }
 
-words-sound : (name first second third : List ℕ) → SoundLine (wordsRead name first second third)
+words-sound : (name behind : List ℕ) → SoundLine (wordsRead name behind)
 unfolding wordsRead
-words-sound name first second third =
+words-sound name behind =
     let k = placeIn keywords name in
     either SoundLine (eqb (length name) 0) blank-sound
     (either SoundLine (leb keywordCount k) (malformed-sound unknownWord)
-    (either SoundLine (eqb (length third) 0)
-    (condition-sound k (firstValue k first) (secondValue k second) (first-value-read k first) (second-value-read k second))
+    (either SoundLine (eqb (length (firstWord (afterWords (mostValues k) behind))) 0)
+    (condition-sound k (valuesRead k behind) (values-ranked k behind))
     (malformed-sound manyValues)))
 
 line-read-sound : (l : List ℕ) → SoundLine (lineRead l)
 unfolding lineRead
-line-read-sound l = words-sound _ _ _ _
+line-read-sound l = words-sound _ _
 
 rank-most : (r : ℕ) → rankOf r ≤ 6
 unfolding rankOf
@@ -164,16 +174,16 @@ record Accepted (q : Query) : Type 0 where
   edition : isEdition (q .edition) ≡ true
   order : q .first ≤ q .last
   end : q .last ≤ lastDay
-  weekday : askedInRange (q .weekday) 6 ≡ true
+  weekdays : weekdaysInRange (q .weekdays) ≡ true
   tithi : askedInRange (q .tithi) 29 ≡ true
   nakshatra : askedInRange (q .nakshatra) 26 ≡ true
   yoga : askedInRange (q .yoga) 26 ≡ true
-  arcs : (body : ℕ) → body < 9 → arcInRange (arcAt (q .arcs) body) ≡ true
+  arcs : (body : ℕ) → body < 9 → bodyArcsInRange (arcsAt (q .arcs) body) ≡ true
 
-arc-in-range : (arcs : List Arc) → arcsInRange arcs ≡ true → (body : ℕ) → body < 9 → arcInRange (arcAt arcs body) ≡ true
-arc-in-range arcs e body h = go (arcInRange (arcAt arcs body)) refl
+arc-in-range : (arcs : List BodyArcs) → arcsInRange arcs ≡ true → (body : ℕ) → body < 9 → bodyArcsInRange (arcsAt arcs body) ≡ true
+arc-in-range arcs e body h = go (bodyArcsInRange (arcsAt arcs body)) refl
   where
-    go : (t : Bool) → arcInRange (arcAt arcs body) ≡ t → arcInRange (arcAt arcs body) ≡ true
+    go : (t : Bool) → bodyArcsInRange (arcsAt arcs body) ≡ t → bodyArcsInRange (arcsAt arcs body) ≡ true
     go true f = f
     go false f = absurd (false≢true (sym (arcs-false arcs body h f) ∙ e))
 
@@ -188,7 +198,7 @@ accepted-conditions q edition order end e =
       edition = edition;
       order = order;
       end = end;
-      weekday = w .0;
+      weekdays = w .0;
       tithi = t .0;
       nakshatra = n .0;
       yoga = y .0;
@@ -206,7 +216,7 @@ parts-accepted q g =
       le-leb (q .first) lastDay (omega (arith, g .order, g .end)),
       le-leb (q .last) lastDay (g .end),
       le-leb (q .first) (q .last) (g .order),
-      g .weekday,
+      g .weekdays,
       g .tithi,
       g .nakshatra,
       g .yoga,
@@ -231,54 +241,54 @@ span-picked true a b f l pn po = pn
 span-picked false a b f l pn po = po
 
 arcs-picked :
-    (t : Bool) (arcs : List Arc) (i : ℕ) (arc : Arc) →
+    (t : Bool) (arcs : List BodyArcs) (i : ℕ) (arc : BodyArcs) →
     i < 9 →
     length arcs ≡ 9 →
-    ((body : ℕ) → body < 9 → arcInRange (arcAt (cond t (set (replicate 9 noArc) i arc) (replicate 9 noArc)) body) ≡ true) →
-    ((body : ℕ) → body < 9 → arcInRange (arcAt arcs body) ≡ true) →
+    ((body : ℕ) → body < 9 → bodyArcsInRange (arcsAt (cond t (set (replicate 9 noArcs) i arc) (replicate 9 noArcs)) body) ≡ true) →
+    ((body : ℕ) → body < 9 → bodyArcsInRange (arcsAt arcs body) ≡ true) →
     (body : ℕ) →
     body < 9 →
-    arcInRange (arcAt (cond t (set arcs i arc) arcs) body) ≡ true
+    bodyArcsInRange (arcsAt (cond t (set arcs i arc) arcs) body) ≡ true
 arcs-picked false arcs i arc hi nine pn po body h = po body h
 arcs-picked true arcs i arc hi nine pn po body h = go (eqb body i) refl
   where
-    this : arcInRange arc ≡ true
-    this = sym (ap arcInRange (getD-set-same (replicate 9 noArc) i arc noArc hi)) ∙ pn i hi
+    this : bodyArcsInRange arc ≡ true
+    this = sym (ap bodyArcsInRange (getD-set-same (replicate 9 noArcs) i arc noArcs hi)) ∙ pn i hi
 
-    go : (u : Bool) → eqb body i ≡ u → arcInRange (arcAt (set arcs i arc) body) ≡ true
+    go : (u : Bool) → eqb body i ≡ u → bodyArcsInRange (arcsAt (set arcs i arc) body) ≡ true
     go true e =
         let same = eqb-true body i e in
-        rw (same, getD-set-same arcs i arc noArc (omega arith)) this
-    go false e = rw (getD-set-other arcs i body arc noArc (eqb-false body i e)) (po body h)
+        rw (same, getD-set-same arcs i arc noArcs (omega arith)) this
+    go false e = rw (getD-set-other arcs i body arc noArcs (eqb-false body i e)) (po body h)
 
 abbrev asked : ℕ → Asked
 asked a = record { given = true; value = a }
 
 -- conditions that are not refused alone are not refused together
 together :
-    (q : Query) (k a b : ℕ) →
+    (q : Query) (k : ℕ) (v : Values) →
     k < keywordCount →
     length (q .arcs) ≡ 9 →
     Accepted q →
-    Accepted (withCondition everyDay k a b) →
-    Accepted (withCondition q k a b)
+    Accepted (withCondition everyDay k v) →
+    Accepted (withCondition q k v)
 unfolding withCondition
-together q k a b hk nine g alone =
+together q k v hk nine g alone =
     record {
-      edition = picked (λ (n : ℕ). isEdition n ≡ true) (eqb k editionKeyword) a firstEdition (q .edition) (alone .edition) (g .edition);
-      order = span-picked (eqb k spanKeyword) a b (q .first) (q .last) (alone .order) (g .order);
-      end = picked (λ (n : ℕ). n ≤ lastDay) (eqb k spanKeyword) b lastDay (q .last) (alone .end) (g .end);
-      weekday = picked (λ (x : Asked). askedInRange x 6 ≡ true) (eqb k weekdayKeyword) (asked a) notAsked (q .weekday) (alone .weekday) (g .weekday);
-      tithi = picked (λ (x : Asked). askedInRange x 29 ≡ true) (eqb k tithiKeyword) (asked a) notAsked (q .tithi) (alone .tithi) (g .tithi);
-      nakshatra = picked (λ (x : Asked). askedInRange x 26 ≡ true) (eqb k nakshatraKeyword) (asked a) notAsked (q .nakshatra) (alone .nakshatra) (g .nakshatra);
-      yoga = picked (λ (x : Asked). askedInRange x 26 ≡ true) (eqb k yogaKeyword) (asked a) notAsked (q .yoga) (alone .yoga) (g .yoga);
+      edition = picked (λ (n : ℕ). isEdition n ≡ true) (eqb k editionKeyword) (v .first) firstEdition (q .edition) (alone .edition) (g .edition);
+      order = span-picked (eqb k spanKeyword) (v .first) (v .second) (q .first) (q .last) (alone .order) (g .order);
+      end = picked (λ (n : ℕ). n ≤ lastDay) (eqb k spanKeyword) (v .second) lastDay (q .last) (alone .end) (g .end);
+      weekdays = picked (λ (x : Weekdays). weekdaysInRange x ≡ true) (eqb k weekdayKeyword) (record { given = true; set = v .first }) noWeekdays (q .weekdays) (alone .weekdays) (g .weekdays);
+      tithi = picked (λ (x : Asked). askedInRange x 29 ≡ true) (eqb k tithiKeyword) (asked (v .first)) notAsked (q .tithi) (alone .tithi) (g .tithi);
+      nakshatra = picked (λ (x : Asked). askedInRange x 26 ≡ true) (eqb k nakshatraKeyword) (asked (v .first)) notAsked (q .nakshatra) (alone .nakshatra) (g .nakshatra);
+      yoga = picked (λ (x : Asked). askedInRange x 26 ≡ true) (eqb k yogaKeyword) (asked (v .first)) notAsked (q .yoga) (alone .yoga) (g .yoga);
       arcs = arcs-picked (leb arcKeywords k) (q .arcs) (k - arcKeywords) _ (omega arith) nine (alone .arcs) (g .arcs);
     }
 
-nine-kept : (q : Query) (k a b : ℕ) → length (q .arcs) ≡ 9 → length (withCondition q k a b .arcs) ≡ 9
+nine-kept : (q : Query) (k : ℕ) (v : Values) → length (q .arcs) ≡ 9 → length (withCondition q k v .arcs) ≡ 9
 unfolding withCondition
-nine-kept q k a b nine =
-    either (λ (arcs : List Arc). length arcs ≡ 9) (leb arcKeywords k) (length-set (q .arcs) (k - arcKeywords) _ ∙ nine) nine
+nine-kept q k v nine =
+    either (λ (arcs : List BodyArcs). length arcs ≡ 9) (leb arcKeywords k) (length-set (q .arcs) (k - arcKeywords) _ ∙ nine) nine
 
 -- a page without a fault has a query that is not refused
 record SoundPage (p : Page) : Type 0 where
@@ -295,12 +305,12 @@ line-sound p n l s sound = go (leb keywordCount (l .keyword)) refl
     f : Fault
     f = record { refusal = l .refusal; reason = l .reason; line = n }
 
-    new : l .keyword < keywordCount → SoundPage (record { fault = firstFault (p .fault) f; present = set (p .present) (l .keyword) true; query = withCondition (p .query) (l .keyword) (l .first) (l .second) })
+    new : l .keyword < keywordCount → SoundPage (record { fault = firstFault (p .fault) f; present = set (p .present) (l .keyword) true; query = withCondition (p .query) (l .keyword) (l .values) })
     new h =
         record {
-          nine = nine-kept (p .query) (l .keyword) (l .first) (l .second) (s .nine);
+          nine = nine-kept (p .query) (l .keyword) (l .values) (s .nine);
           accepted = λ r.
-              together (p .query) (l .keyword) (l .first) (l .second) h (s .nine) (s .accepted (first-fault-former (p .fault) f r))
+              together (p .query) (l .keyword) (l .values) h (s .nine) (s .accepted (first-fault-former (p .fault) f r))
               (accepted-parts _ (sound .alone (first-fault-latter (p .fault) f (sound .ranked) r) h));
         }
 
@@ -315,7 +325,7 @@ lines-sound p n (l ∷ []) s = either SoundPage (eqb (length l) 0) s (with-fault
 lines-sound p n (l ∷ m ∷ ms) s = lines-sound (withLine p n (lineRead l)) (suc n) (m ∷ ms) (line-sound p n (lineRead l) s (line-read-sound l))
 
 every-accepted : refusalOf everyDay ≡ 0
-unfolding refusalOf isEdition conditionsInRange askedInRange arcsInRange arcInRange
+unfolding refusalOf isEdition conditionsInRange askedInRange weekdaysInRange arcsInRange bodyArcsInRange arcInRange
 every-accepted = refl
 
 empty-sound : SoundPage emptyPage

@@ -1,27 +1,29 @@
 -- The grammar of a page: what a line means, and what the lines mean together.
 -- Assumes nothing.
-use mathlib.Core.Bool.{Bool, true, false, cond}
+use mathlib.Core.Bool.{Bool, true, false, cond, _&&_}
 use mathlib.Core.List.{List, [], _∷_}
 use Prim.Native.Nat.{ℕ, suc, _-_}
 use lib.Dec.{eqb, leb, ltb}
 use lib.ListN.{length, getD, set, replicate}
 use Rattle.days.specs.declared.NumberAnswer.{NumberAnswer}
-use Rattle.days.specs.Days.{lastDay}
+use Rattle.days.specs.Days.{lastDay, theNumber}
 use Rattle.days.specs.Refusals.{accepted, noSuchDate, outOfRange, badInput, lastBeforeFirst, badCondition, badEdition}
 use Rattle.panchanga.specs.TrueLongitudes.{firstEdition}
 use Rattle.query.specs.declared.Asked.{Asked}
 use Rattle.query.specs.declared.Query.{Query}
-use Rattle.query.specs.Conditions.{notAsked, noArc}
+use Rattle.query.specs.Conditions.{notAsked, noWeekdays, noArc, noArcs}
 use Rattle.query.specs.Query.{refusalOf}
 use Rattle.text.specs.Decimal.{numberRead}
 use Rattle.text.specs.Lines.{newline}
+use Rattle.page.specs.declared.Values.{Values}
+use Rattle.page.specs.declared.ArcRead.{ArcRead}
 use Rattle.page.specs.declared.LineRead.{LineRead}
 use Rattle.page.specs.declared.Fault.{Fault}
 use Rattle.page.specs.declared.Page.{Page}
 use Rattle.page.specs.declared.PageRead.{PageRead}
-use Rattle.words.specs.Words.{hash, upTo, firstWord, afterWord, pieces, placeIn}
+use Rattle.words.specs.Words.{hash, upTo, firstWord, afterWord, afterWords, pieces, placeIn}
 use Rattle.page.specs.Names.{keywords}
-use Rattle.values.specs.Values.{angleRead, dayRead, weekdayRead, noneRead}
+use Rattle.values.specs.Values.{isRead, angleRead, dayRead, weekdaysRead, noneRead}
 
 -- the keywords, by their places among `keywords`; from `arcKeywords` on those of the nine arcs
 abbrev pub spanKeyword : ℕ
@@ -56,33 +58,37 @@ onlySpan edition first last =
       first = first;
       last = last;
       edition = edition;
-      weekday = notAsked;
+      weekdays = noWeekdays;
       tithi = notAsked;
       nakshatra = notAsked;
       yoga = notAsked;
-      arcs = replicate 9 noArc;
+      arcs = replicate 9 noArcs;
     }
 
 -- every day there is, in the first edition
 abbrev pub everyDay : Query
 everyDay = onlySpan firstEdition 0 lastDay
 
+-- the values of a refused line, and those of a line without any
+abbrev pub noValues : ℕ → Values
+noValues refusal = record { refusal = refusal; first = 0; second = 0; arcs = noArcs }
+
 -- the condition of a field, where k is the field's own keyword
 abbrev pub ownAsked : ℕ → ℕ → ℕ → Asked → Asked
 ownAsked own k a old = cond (eqb k own) (record { given = true; value = a }) old
 
--- the query with the condition of keyword k, its values a and b
-unfoldable pub withCondition : Query → ℕ → ℕ → ℕ → Query
-withCondition q k a b =
+-- the query with the condition of keyword k and its values
+unfoldable pub withCondition : Query → ℕ → Values → Query
+withCondition q k v =
     record {
-      first = cond (eqb k spanKeyword) a (q .first);
-      last = cond (eqb k spanKeyword) b (q .last);
-      edition = cond (eqb k editionKeyword) a (q .edition);
-      weekday = ownAsked weekdayKeyword k a (q .weekday);
-      tithi = ownAsked tithiKeyword k a (q .tithi);
-      nakshatra = ownAsked nakshatraKeyword k a (q .nakshatra);
-      yoga = ownAsked yogaKeyword k a (q .yoga);
-      arcs = cond (leb arcKeywords k) (set (q .arcs) (k - arcKeywords) (record { given = true; start = a; width = b })) (q .arcs);
+      first = cond (eqb k spanKeyword) (v .first) (q .first);
+      last = cond (eqb k spanKeyword) (v .second) (q .last);
+      edition = cond (eqb k editionKeyword) (v .first) (q .edition);
+      weekdays = cond (eqb k weekdayKeyword) (record { given = true; set = v .first }) (q .weekdays);
+      tithi = ownAsked tithiKeyword k (v .first) (q .tithi);
+      nakshatra = ownAsked nakshatraKeyword k (v .first) (q .nakshatra);
+      yoga = ownAsked yogaKeyword k (v .first) (q .yoga);
+      arcs = cond (leb arcKeywords k) (set (q .arcs) (k - arcKeywords) (v .arcs)) (q .arcs);
     }
 
 -- the order of refusals: the edition's, a malformed line, a date that does not exist, then as in the search; accepted is last
@@ -100,14 +106,43 @@ ranksBefore r t = ltb (rankOf r) (rankOf t)
 unfoldable pub firstRefusal : ℕ → ℕ → ℕ
 firstRefusal r t = cond (ranksBefore t r) t r
 
--- a span has two days, an arc two angles, and the others one number
+-- a span has two days, and an element or an edition one number
 unfoldable pub firstValue : ℕ → List ℕ → NumberAnswer
-firstValue k w =
-    cond (eqb k spanKeyword) (dayRead w)
-    (cond (eqb k weekdayKeyword) (weekdayRead w) (cond (ltb k arcKeywords) (numberRead w) (angleRead w)))
+firstValue k w = cond (eqb k spanKeyword) (dayRead w) (numberRead w)
 
 unfoldable pub secondValue : ℕ → List ℕ → NumberAnswer
-secondValue k w = cond (eqb k spanKeyword) (dayRead w) (cond (ltb k arcKeywords) (noneRead w) (angleRead w))
+secondValue k w = cond (eqb k spanKeyword) (dayRead w) (noneRead w)
+
+unfoldable pub numbersRead : NumberAnswer → NumberAnswer → Values
+numbersRead a b =
+    cond (eqb (firstRefusal (a .refusal) (b .refusal)) accepted)
+    (record { refusal = accepted; first = a .number; second = b .number; arcs = noArcs })
+    (noValues (firstRefusal (a .refusal) (b .refusal)))
+
+-- an arc has two angles, its start and its width; a second arc may be missing
+unfoldable pub arcRead : List ℕ → List ℕ → ArcRead
+arcRead start width =
+    cond (isRead (angleRead start) && isRead (angleRead width))
+    (record { read = true; arc = record { given = true; start = angleRead start .number; width = angleRead width .number } })
+    (record { read = false; arc = noArc })
+
+unfoldable pub secondArcRead : List ℕ → List ℕ → ArcRead
+secondArcRead start width = cond (eqb (length start) 0) (record { read = true; arc = noArc }) (arcRead start width)
+
+unfoldable pub arcsRead : ArcRead → ArcRead → Values
+arcsRead a b =
+    cond (a .read && b .read) (record { refusal = accepted; first = 0; second = 0; arcs = record { first = a .arc; second = b .arc } }) (noValues badInput)
+
+-- the most values that a line may have: seven weekdays, two arcs of two angles, else two
+unfoldable pub mostValues : ℕ → ℕ
+mostValues k = cond (eqb k weekdayKeyword) 7 (cond (ltb k arcKeywords) 2 4)
+
+-- the values of keyword k in the text behind it: weekdays, two numbers, or arcs
+unfoldable pub valuesRead : ℕ → List ℕ → Values
+valuesRead k t =
+    cond (eqb k weekdayKeyword) (numbersRead (weekdaysRead 7 0 t) (theNumber 0))
+    (cond (ltb k arcKeywords) (numbersRead (firstValue k (firstWord t)) (secondValue k (firstWord (afterWord t))))
+    (arcsRead (arcRead (firstWord t) (firstWord (afterWord t))) (secondArcRead (firstWord (afterWords 2 t)) (firstWord (afterWords 3 t)))))
 
 -- why a line is malformed: no such keyword; too many values; a value missing, malformed or one too many; a keyword of an
 -- earlier line; no newline at the end
@@ -127,45 +162,29 @@ abbrev pub notEnded : ℕ
 notEnded = 5
 
 abbrev pub malformedLine : ℕ → LineRead
-malformedLine why = record { refusal = badInput; reason = why; keyword = keywordCount; first = 0; second = 0 }
+malformedLine why = record { refusal = badInput; reason = why; keyword = keywordCount; values = noValues accepted }
 
 -- a line without a word
 abbrev pub blankLine : LineRead
-blankLine = record { refusal = accepted; reason = 0; keyword = keywordCount; first = 0; second = 0 }
+blankLine = record { refusal = accepted; reason = 0; keyword = keywordCount; values = noValues accepted }
 
--- the condition of keyword k with its values, and the refusal r
-abbrev pub conditionLine : ℕ → ℕ → ℕ → ℕ → LineRead
-conditionLine r k a b = record { refusal = r; reason = 0; keyword = k; first = a; second = b }
+-- the condition of keyword k with its values: refused as its dates are, or as the query with this condition alone
+unfoldable pub conditionRead : ℕ → Values → LineRead
+conditionRead k v =
+    cond (eqb (v .refusal) badInput) (malformedLine badValue)
+    (record { refusal = cond (eqb (v .refusal) accepted) (refusalOf (withCondition everyDay k v)) (v .refusal); reason = 0; keyword = k; values = v })
 
--- the condition of keyword k with the values a and b: refused as its dates are, or as the query with this condition alone
-unfoldable pub conditionRead : ℕ → NumberAnswer → NumberAnswer → LineRead
-conditionRead k a b =
-    cond (eqb (firstRefusal (a .refusal) (b .refusal)) badInput) (malformedLine badValue)
-    (cond (eqb (firstRefusal (a .refusal) (b .refusal)) accepted)
-    (conditionLine (refusalOf (withCondition everyDay k (a .number) (b .number))) k (a .number) (b .number))
-    (conditionLine (firstRefusal (a .refusal) (b .refusal)) k 0 0))
-
--- the words of a line: its first, and at most two after it
-unfoldable pub wordsRead : List ℕ → List ℕ → List ℕ → List ℕ → LineRead
-wordsRead name first second third =
+-- a line's first word and the text behind it
+unfoldable pub wordsRead : List ℕ → List ℕ → LineRead
+wordsRead name behind =
     cond (eqb (length name) 0) blankLine
-    (cond (leb keywordCount (placeIn keywords name)) (malformedLine unknownWord)
-    (cond (eqb (length third) 0)
-    (conditionRead (placeIn keywords name) (firstValue (placeIn keywords name) first) (secondValue (placeIn keywords name) second))
-    (malformedLine manyValues)))
-
--- the words of a text without its comment
-abbrev pub bodyRead : List ℕ → LineRead
-bodyRead b =
-    wordsRead
-    (firstWord b)
-    (firstWord (afterWord b))
-    (firstWord (afterWord (afterWord b)))
-    (firstWord (afterWord (afterWord (afterWord b))))
+    (let k = placeIn keywords name in
+    cond (leb keywordCount k) (malformedLine unknownWord)
+    (cond (eqb (length (firstWord (afterWords (mostValues k) behind))) 0) (conditionRead k (valuesRead k behind)) (malformedLine manyValues)))
 
 -- WHAT A LINE MEANS; a `#` starts a comment
 unfoldable pub lineRead : List ℕ → LineRead
-lineRead l = bodyRead (upTo hash l)
+lineRead l = wordsRead (firstWord (upTo hash l)) (afterWord (upTo hash l))
 
 -- of two faults the one whose refusal is first; of two with one refusal the former
 unfoldable pub firstFault : Fault → Fault → Fault
@@ -183,7 +202,7 @@ withLine p n l =
     (record {
       fault = firstFault (p .fault) (record { refusal = l .refusal; reason = l .reason; line = n });
       present = set (p .present) (l .keyword) true;
-      query = withCondition (p .query) (l .keyword) (l .first) (l .second);
+      query = withCondition (p .query) (l .keyword) (l .values);
     }))
 
 -- the page with the lines from the nth on; nothing may follow the last newline

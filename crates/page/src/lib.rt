@@ -5,13 +5,16 @@ use days::refusal;
 use panchanga::FIRST_EDITION;
 use query::Arc;
 use query::Asked;
+use query::BodyArcs;
 use query::Query;
+use query::Weekdays;
 use values::angle;
 use values::day;
 use values::nothing;
-use values::weekday;
+use values::weekdays;
 use words::after;
 use words::after_word;
+use words::after_words;
 use words::body_place;
 use words::first_word;
 use words::place_in;
@@ -21,7 +24,7 @@ ghost use mathlib.Core.Path.{_≡_};
 ghost use Prim.Native.Nat.{_<_};
 ghost use Rattle.words.specs.Words.{placeIn};
 ghost use Rattle.page.specs.Names.{keywords};
-ghost use Rattle.page.specs.Page.{keywordCount, onlySpan, withCondition, rankOf, ranksBefore, firstRefusal, firstValue, secondValue, malformedLine, conditionRead, lineRead, firstFault, withFault, withLine, emptyPage, pageAnswer, pageRead};
+ghost use Rattle.page.specs.Page.{keywordCount, onlySpan, noValues, withCondition, rankOf, ranksBefore, firstRefusal, firstValue, secondValue, numbersRead, arcRead, secondArcRead, arcsRead, mostValues, valuesRead, malformedLine, conditionRead, lineRead, firstFault, withFault, withLine, emptyPage, pageAnswer, pageRead};
 
 // The words that a line begins with, and behind them the names of the bodies; each is known by its place among them all.
 const CONDITIONS: [u8; 41] = *b"span weekday tithi nakshatra yoga edition";
@@ -64,13 +67,26 @@ pub struct PageRead {
     pub query: Query,
 }
 
-// A line that has been read: its keyword and two values. A line without a keyword has KEYWORD_COUNT.
+// The values of a line that have been read: two numbers, of which a set of weekdays is the first, or a body's arcs. A refusal has all zeros.
+struct Values {
+    refusal: u32,
+    first: u32,
+    second: u32,
+    arcs: BodyArcs,
+}
+
+// An arc that has been read, or was not to be read.
+struct ArcRead {
+    read: bool,
+    arc: Arc,
+}
+
+// A line that has been read: its keyword and its values. A line without a keyword has KEYWORD_COUNT.
 struct LineRead {
     refusal: u32,
     reason: u32,
     keyword: usize,
-    first: u32,
-    second: u32,
+    values: Values,
 }
 
 // A refusal, and the line that it comes from.
@@ -87,6 +103,14 @@ struct Page {
     query: Query,
 }
 
+// The values of a line that has none.
+const NO_VALUES: Values = Values {
+    refusal: refusal::NONE,
+    first: 0,
+    second: 0,
+    arcs: BodyArcs::NONE,
+};
+
 fn only_span(edition: u32, first: u32, last: u32) -> Query
     ensures { λ r. ⌜ r ≡ onlySpan edition first last ⌝ }
 {
@@ -94,30 +118,47 @@ fn only_span(edition: u32, first: u32, last: u32) -> Query
         first,
         last,
         edition,
-        weekday: Asked::NONE,
+        weekdays: Weekdays::NONE,
         tithi: Asked::NONE,
         nakshatra: Asked::NONE,
         yoga: Asked::NONE,
-        arcs: [Arc::NONE; 9],
+        arcs: [BodyArcs::NONE; 9],
     }
 }
 
-fn with_condition(query: Query, keyword: usize, first: u32, second: u32) -> Query
+impl Values {
+    fn refused(refusal: u32) -> Values
+        ensures { λ r. ⌜ r ≡ noValues refusal ⌝ }
+    {
+        Values {
+            refusal,
+            first: 0,
+            second: 0,
+            arcs: BodyArcs::NONE,
+        }
+    }
+}
+
+fn with_condition(query: Query, keyword: usize, values: Values) -> Query
     requires { ⌜ keyword < keywordCount ⌝ }
-    ensures { λ r. ⌜ r ≡ withCondition query keyword first second ⌝ }
+    ensures { λ r. ⌜ r ≡ withCondition query keyword values ⌝ }
 {
     let mut query = query;
     let asked = Asked {
         given: true,
-        value: first,
+        value: values.first,
+    };
+    let weekdays = Weekdays {
+        given: true,
+        set: values.first,
     };
     if keyword == SPAN {
-        query.first = first;
-        query.last = second;
+        query.first = values.first;
+        query.last = values.second;
         return query;
     }
     if keyword == WEEKDAY {
-        query.weekday = asked;
+        query.weekdays = weekdays;
         return query;
     }
     if keyword == TITHI {
@@ -133,16 +174,13 @@ fn with_condition(query: Query, keyword: usize, first: u32, second: u32) -> Quer
         return query;
     }
     if keyword == EDITION {
-        query.edition = first;
+        query.edition = values.first;
         return query;
     }
     let body = keyword - ARCS;
+    let of_body = values.arcs;
     let mut arcs = query.arcs;
-    arcs[body] = Arc {
-        given: true,
-        start: first,
-        width: second,
-    };
+    arcs[body] = of_body;
     query.arcs = arcs;
     query
 }
@@ -186,13 +224,7 @@ fn first_value(keyword: usize, word: &[u8]) -> NumberAnswer
     if keyword == SPAN {
         return day(word);
     }
-    if keyword == WEEKDAY {
-        return weekday(word);
-    }
-    if keyword < ARCS {
-        return text::read_decimal(word);
-    }
-    angle(word)
+    text::read_decimal(word)
 }
 
 fn second_value(keyword: usize, word: &[u8]) -> NumberAnswer
@@ -201,10 +233,111 @@ fn second_value(keyword: usize, word: &[u8]) -> NumberAnswer
     if keyword == SPAN {
         return day(word);
     }
-    if keyword < ARCS {
-        return nothing(word);
+    nothing(word)
+}
+
+fn numbers(first: NumberAnswer, second: NumberAnswer) -> Values
+    ensures { λ r. ⌜ r ≡ numbersRead first second ⌝ }
+{
+    let refused = first_refusal(first.refusal, second.refusal);
+    if refused != refusal::NONE {
+        return Values::refused(refused);
     }
-    angle(word)
+    Values {
+        refusal: refusal::NONE,
+        first: first.number,
+        second: second.number,
+        arcs: BodyArcs::NONE,
+    }
+}
+
+fn read_arc(start: &[u8], width: &[u8]) -> ArcRead
+    ensures { λ r. ⌜ r ≡ arcRead (now (start .entry)) (now (width .entry)) ⌝ }
+{
+    let start = angle(start);
+    let width = angle(width);
+    if start.refusal == refusal::NONE {
+        if width.refusal == refusal::NONE {
+            return ArcRead {
+                read: true,
+                arc: Arc {
+                    given: true,
+                    start: start.number,
+                    width: width.number,
+                },
+            };
+        }
+    }
+    ArcRead {
+        read: false,
+        arc: Arc::NONE,
+    }
+}
+
+// A line may have no second arc.
+fn read_second_arc(start: &[u8], width: &[u8]) -> ArcRead
+    ensures { λ r. ⌜ r ≡ secondArcRead (now (start .entry)) (now (width .entry)) ⌝ }
+{
+    if start.len() == 0 {
+        return ArcRead {
+            read: true,
+            arc: Arc::NONE,
+        };
+    }
+    read_arc(start, width)
+}
+
+fn both_arcs(first: ArcRead, second: ArcRead) -> Values
+    ensures { λ r. ⌜ r ≡ arcsRead first second ⌝ }
+{
+    if !first.read {
+        return Values::refused(refusal::BAD_INPUT);
+    }
+    if !second.read {
+        return Values::refused(refusal::BAD_INPUT);
+    }
+    let one = first.arc;
+    let other = second.arc;
+    Values {
+        refusal: refusal::NONE,
+        first: 0,
+        second: 0,
+        arcs: BodyArcs {
+            first: one,
+            second: other,
+        },
+    }
+}
+
+// The most values that a line may have: seven weekdays, and two arcs of two angles each.
+fn most_values(keyword: usize) -> usize
+    ensures { λ r. ⌜ r ≡ mostValues keyword ⌝ }
+{
+    if keyword == WEEKDAY {
+        7
+    } else if keyword < ARCS {
+        2
+    } else {
+        4
+    }
+}
+
+fn read_values(keyword: usize, text: &[u8]) -> Values
+    ensures { λ r. ⌜ r ≡ valuesRead keyword (now (text .entry)) ⌝ }
+{
+    if keyword == WEEKDAY {
+        return numbers(weekdays(text), NumberAnswer::accepted(0));
+    }
+    let others = after_word(text);
+    let first = first_word(text);
+    let second = first_word(others);
+    if keyword < ARCS {
+        return numbers(first_value(keyword, first), second_value(keyword, second));
+    }
+    let more = after_word(others);
+    let one = read_arc(first, second);
+    let other = read_second_arc(first_word(more), first_word(after_word(more)));
+    both_arcs(one, other)
 }
 
 fn malformed(reason: u32) -> LineRead
@@ -214,37 +347,33 @@ fn malformed(reason: u32) -> LineRead
         refusal: refusal::BAD_INPUT,
         reason,
         keyword: KEYWORD_COUNT,
-        first: 0,
-        second: 0,
+        values: NO_VALUES,
     }
 }
 
-fn condition(keyword: usize, first: NumberAnswer, second: NumberAnswer) -> LineRead
+fn condition(keyword: usize, values: Values) -> LineRead
     requires { ⌜ keyword < keywordCount ⌝ }
-    ensures { λ r. ⌜ r ≡ conditionRead keyword first second ⌝ }
+    ensures { λ r. ⌜ r ≡ conditionRead keyword values ⌝ }
 {
-    let refused = first_refusal(first.refusal, second.refusal);
-    if refused == refusal::BAD_INPUT {
+    if values.refusal == refusal::BAD_INPUT {
         return malformed(BAD_VALUE);
     }
-    if refused != refusal::NONE {
+    if values.refusal != refusal::NONE {
         return LineRead {
-            refusal: refused,
+            refusal: values.refusal,
             reason: 0,
             keyword,
-            first: 0,
-            second: 0,
+            values,
         };
     }
     let every = only_span(FIRST_EDITION, 0, Day::LAST);
-    let alone = with_condition(every, keyword, first.number, second.number);
+    let alone = with_condition(every, keyword, values);
     let refused = alone.refusal();
     LineRead {
         refusal: refused,
         reason: 0,
         keyword,
-        first: first.number,
-        second: second.number,
+        values,
     }
 }
 
@@ -269,8 +398,7 @@ fn read_line(line: &[u8]) -> LineRead
             refusal: refusal::NONE,
             reason: 0,
             keyword: KEYWORD_COUNT,
-            first: 0,
-            second: 0,
+            values: NO_VALUES,
         };
     }
     let keyword = keyword_of(name);
@@ -278,14 +406,11 @@ fn read_line(line: &[u8]) -> LineRead
         return malformed(UNKNOWN_WORD);
     }
     let values = after_word(body);
-    let others = after_word(values);
-    let more = first_word(after_word(others));
+    let more = first_word(after_words(values, most_values(keyword)));
     if more.len() != 0 {
         return malformed(MANY_VALUES);
     }
-    let first = first_value(keyword, first_word(values));
-    let second = second_value(keyword, first_word(others));
-    condition(keyword, first, second)
+    condition(keyword, read_values(keyword, values))
 }
 
 fn first_fault(one: Fault, other: Fault) -> Fault
@@ -329,7 +454,7 @@ fn with_line(page: Page, number: usize, line: LineRead) -> Page
     }
     present[keyword] = true;
     let fault = first_fault(page.fault, fault);
-    let query = with_condition(page.query, keyword, line.first, line.second);
+    let query = with_condition(page.query, keyword, line.values);
     Page {
         fault,
         present,

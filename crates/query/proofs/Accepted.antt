@@ -8,9 +8,10 @@ use lib.Dec.{leb}
 use borrow.Author.Tests.{leb-true, le-leb}
 use Rattle.days.specs.Days.{lastDay}
 use Rattle.panchanga.specs.TrueLongitudes.{isEdition}
+use Rattle.query.specs.declared.BodyArcs.{BodyArcs}
 use Rattle.query.specs.declared.Query.{Query}
-use Rattle.query.specs.Conditions.{askedInRange, arcInRange, arcsInRange, conditionsInRange}
-use Rattle.query.specs.Query.{sunArc, refusalOf}
+use Rattle.query.specs.Conditions.{askedInRange, weekdaysInRange, arcInRange, bodyArcsInRange, arcsInRange, conditionsInRange}
+use Rattle.query.specs.Query.{sunArcs, refusalOf}
 
 and-right : (a b : Bool) → (a && b) ≡ true → b ≡ true
 and-right true b e = e
@@ -20,20 +21,25 @@ and-left : (a b : Bool) → (a && b) ≡ true → a ≡ true
 and-left true b e = refl
 and-left false b e = e
 
--- a query that is not refused: its edition, its days and the Sun's arc are in range
+-- both arcs of a body
+pub each-in-range : (a : BodyArcs) → bodyArcsInRange a ≡ true → (arcInRange (a .first) ≡ true) × (arcInRange (a .second) ≡ true)
+unfolding bodyArcsInRange
+each-in-range a e = (and-left (arcInRange (a .first)) (arcInRange (a .second)) e, and-right (arcInRange (a .first)) (arcInRange (a .second)) e)
+
+-- a query that is not refused: its edition, its days and the Sun's arcs are in range
 pub record Accepted (q : Query) : Type 0 where
   pub edition : isEdition (q .edition) ≡ true
   pub first : q .first ≤ q .last
   pub last : q .last ≤ lastDay
-  pub sun : arcInRange (sunArc q) ≡ true
+  pub sun : bodyArcsInRange (sunArcs q) ≡ true
   pub conditions : conditionsInRange q ≡ true
 
-sun-of : (q : Query) → conditionsInRange q ≡ true → arcInRange (sunArc q) ≡ true
+sun-of : (q : Query) → conditionsInRange q ≡ true → bodyArcsInRange (sunArcs q) ≡ true
 unfolding conditionsInRange arcsInRange
 sun-of q e =
-    and-left (arcInRange (sunArc q)) _
+    and-left (bodyArcsInRange (sunArcs q)) _
     (and-right (askedInRange (q .yoga) 26) _
-    (and-right (askedInRange (q .nakshatra) 26) _ (and-right (askedInRange (q .tithi) 29) _ (and-right (askedInRange (q .weekday) 6) _ e))))
+    (and-right (askedInRange (q .nakshatra) 26) _ (and-right (askedInRange (q .tithi) 29) _ (and-right (weekdaysInRange (q .weekdays)) _ e))))
 
 pub accepted-by : (q : Query) → refusalOf q ≡ 0 → Accepted q
 unfolding refusalOf

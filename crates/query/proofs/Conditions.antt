@@ -1,8 +1,8 @@
 -- A test of each of the bodies, by its outcomes; and a day's conditions from the outcomes of their tests, case by case.
 -- Assumes nothing.
 use mathlib.Core.Path.{_≡_, refl, sym, _∙_}
-use mathlib.Core.Bool.{Bool, true, false, not, _||_, and-true, and-false, or-true, true≢false}
-use mathlib.Core.List.{List}
+use mathlib.Core.Bool.{Bool, true, false, cond, not, _&&_, _||_, and-true, and-false, or-true, or-false, true≢false, false≢true}
+use mathlib.Core.List.{List, [], _∷_}
 use Prim.Native.Nat.{ℕ, zero, suc, _≤_, _<_}
 use native.Mathlib.Omega.{arith}
 use lib.Dec.{lit<}
@@ -14,12 +14,12 @@ use Rattle.panchanga.specs.declared.Panchanga.{Panchanga}
 use Rattle.panchanga.specs.TrueLongitudes.{isEdition}
 use Rattle.panchanga.specs.OnDays.{tithiAt, nakshatraAt, yogaAt, panchangaOf}
 use Rattle.panchanga.proofs.Answers.{elements-given}
-use Rattle.query.specs.declared.Arc.{Arc}
+use Rattle.query.specs.declared.BodyArcs.{BodyArcs}
 use Rattle.query.specs.declared.Query.{Query}
-use Rattle.query.specs.Conditions.{eachOther, someOther, eachBody, meets, inArc, arcAt, arcInRange, arcsInRange, arcMet, arcsMet, otherArcsMet, elementsMet, othersMet, otherArcsGiven, asksMore}
+use Rattle.query.specs.Conditions.{eachOther, someOther, eachBody, meets, weekdayMet, ifGiven, givenArcs, arcsGiven, inArc, inSome, inArcs, arcsAt, bodyArcsInRange, arcsInRange, bodyMet, arcsMet, otherArcsMet, elementsMet, othersMet, otherArcsGiven, asksMore}
 use Rattle.query.specs.Query.{conditionsMet}
 
-neither : (a b : Bool) → (a || b) ≡ false → (a ≡ false) × (b ≡ false)
+pub neither : (a b : Bool) → (a || b) ≡ false → (a ≡ false) × (b ≡ false)
 neither true b e = absurd (true≢false e)
 neither false b e = (refl, e)
 
@@ -64,41 +64,68 @@ module _ (p : ℕ → Bool) where
       go true f = absurd (true≢false (sym (other-true k l u f) ∙ e))
       go false f = f
 
-pub arcs-true : (arcs : List Arc) → ((k : ℕ) → k < 9 → arcInRange (arcAt arcs k) ≡ true) → arcsInRange arcs ≡ true
+pub arcs-true : (arcs : List BodyArcs) → ((k : ℕ) → k < 9 → bodyArcsInRange (arcsAt arcs k) ≡ true) → arcsInRange arcs ≡ true
 unfolding arcsInRange
-arcs-true arcs h = each-true (λ (body : ℕ). arcInRange (arcAt arcs body)) h
+arcs-true arcs h = each-true (λ (body : ℕ). bodyArcsInRange (arcsAt arcs body)) h
 
-pub arcs-false : (arcs : List Arc) (k : ℕ) → k < 9 → arcInRange (arcAt arcs k) ≡ false → arcsInRange arcs ≡ false
+pub arcs-false : (arcs : List BodyArcs) (k : ℕ) → k < 9 → bodyArcsInRange (arcsAt arcs k) ≡ false → arcsInRange arcs ≡ false
 unfolding arcsInRange
-arcs-false arcs k h e = each-false (λ (body : ℕ). arcInRange (arcAt arcs body)) k h e
+arcs-false arcs k h e = each-false (λ (body : ℕ). bodyArcsInRange (arcsAt arcs body)) k h e
 
-module _ (arcs : List Arc) where
-  pub arc-given : (body : ℕ) → 0 < body → body < 9 → arcAt arcs body .given ≡ true → true ≡ otherArcsGiven arcs
+-- of one or two arcs, where the first is given and has a longitude, and where not
+module _ (a : BodyArcs) (x : ℕ) where
+  pub first-has : (a .first .given && inArc (a .first) x) ≡ true → true ≡ inSome (givenArcs a) x
+  unfolding givenArcs inSome
+  first-has = go (a .first .given) (inArc (a .first) x) refl
+    where
+      go : (g t : Bool) → inArc (a .first) x ≡ t → (g && t) ≡ true → true ≡ inSome (cond g (a .first ∷ ifGiven (a .second) []) (ifGiven (a .second) [])) x
+      go true true e h = rw e
+      go true false e h = absurd (false≢true h)
+      go false t e h = absurd (false≢true h)
+
+  pub second-has : (a .first .given && inArc (a .first) x) ≡ false → (a .second .given && inArc (a .second) x) ≡ inSome (givenArcs a) x
+  unfolding givenArcs inSome
+  second-has = go (a .first .given) (inArc (a .first) x) (a .second .given) (inArc (a .second) x) refl refl
+    where
+      go :
+          (g t h u : Bool) →
+          inArc (a .first) x ≡ t →
+          inArc (a .second) x ≡ u →
+          (g && t) ≡ false →
+          (h && u) ≡ inSome (cond g (a .first ∷ cond h (a .second ∷ []) []) (cond h (a .second ∷ []) [])) x
+      go true true h u e f k = absurd (true≢false k)
+      go true false true u e f k = rw (e, f) (sym (or-false u))
+      go true false false u e f k = rw e
+      go false t true u e f k = rw f (sym (or-false u))
+      go false t false u e f k = refl
+
+module _ (arcs : List BodyArcs) where
+  pub arc-given : (body : ℕ) → 0 < body → body < 9 → arcsGiven (arcsAt arcs body) ≡ true → true ≡ otherArcsGiven arcs
   unfolding otherArcsGiven
-  arc-given body l u e = sym (other-true (λ (k : ℕ). arcAt arcs k .given) body l u e)
+  arc-given body l u e = sym (other-true (λ (k : ℕ). arcsGiven (arcsAt arcs k)) body l u e)
 
-  pub no-arc-given : ((body : ℕ) → 0 < body → body < 9 → arcAt arcs body .given ≡ false) → false ≡ otherArcsGiven arcs
+  pub no-arc-given : ((body : ℕ) → 0 < body → body < 9 → arcsGiven (arcsAt arcs body) ≡ false) → false ≡ otherArcsGiven arcs
   unfolding otherArcsGiven
   no-arc-given h =
       rw (h 1 (lit< tt) (lit< tt), h 2 (lit< tt) (lit< tt), h 3 (lit< tt) (lit< tt), h 4 (lit< tt) (lit< tt), h 5 (lit< tt) (lit< tt), h 6 (lit< tt) (lit< tt), h 7 (lit< tt) (lit< tt), h 8 (lit< tt) (lit< tt))
 
-module _ (arcs : List Arc) (d : Day) where
+module _ (arcs : List BodyArcs) (d : Day) where
   -- an arc that is not met decides
-  pub arc-not-met : (body : ℕ) (found : Bool) → 0 < body → body < 9 → found ≡ arcMet arcs d body → not found ≡ true → false ≡ otherArcsMet arcs d
+  pub arc-not-met : (body : ℕ) (found : Bool) → 0 < body → body < 9 → found ≡ bodyMet arcs d body → not found ≡ true → false ≡ otherArcsMet arcs d
   unfolding otherArcsMet
-  arc-not-met body found l u e n = sym (other-false (arcMet arcs d) body l u (sym e ∙ not-true found n))
+  arc-not-met body found l u e n = sym (other-false (bodyMet arcs d) body l u (sym e ∙ not-true found n))
 
   -- else the last arc does
   pub last-arc-met :
       (found : Bool) →
-      arcMet arcs d 1 ≡ true →
-      arcMet arcs d 2 ≡ true →
-      arcMet arcs d 3 ≡ true →
-      arcMet arcs d 4 ≡ true →
-      arcMet arcs d 5 ≡ true →
-      arcMet arcs d 6 ≡ true →
-      arcMet arcs d 7 ≡ true →
-      found ≡ arcMet arcs d 8 →
+      bodyMet arcs d 1 ≡ true →
+      bodyMet arcs d 2 ≡ true →
+      bodyMet arcs d 3 ≡ true →
+      bodyMet arcs d 4 ≡ true →
+      bodyMet arcs d 5 ≡ true →
+      bodyMet arcs d 6 ≡ true →
+      bodyMet arcs d 7 ≡ true →
+      found ≡ bodyMet arcs d 8 →
       found ≡ otherArcsMet arcs d
   unfolding otherArcsMet
   last-arc-met found a b c e f g h k = rw (a, b, c, e, f, g, h, k)
@@ -134,24 +161,24 @@ module _ (q : Query) (d : Day) where
 
   -- where nothing more is asked, nothing more is to be met
   pub no-more : isEdition (q .edition) ≡ true → asksMore q ≡ false → inRange d ≡ true → othersMet q d ≡ true
-  unfolding asksMore otherArcsGiven othersMet otherArcsMet elementsMet meets inArc
+  unfolding asksMore otherArcsGiven othersMet otherArcsMet elementsMet meets inArcs
   no-more edition e r =
       let tithi = neither (q .tithi .given) (q .nakshatra .given || (q .yoga .given || otherArcsGiven (q .arcs))) e in
       let nakshatra = neither (q .nakshatra .given) (q .yoga .given || otherArcsGiven (q .arcs)) (tithi .1) in
       let yoga = neither (q .yoga .given) (otherArcsGiven (q .arcs)) (nakshatra .1) in
-      let arc = all-false (λ (body : ℕ). arcAt (q .arcs) body .given) (yoga .1) in
+      let arc = all-false (λ (body : ℕ). arcsGiven (arcsAt (q .arcs) body)) (yoga .1) in
       rw (edition, r, tithi .0, nakshatra .0, yoga .0, arc 1 (lit< tt) (lit< tt), arc 2 (lit< tt) (lit< tt), arc 3 (lit< tt) (lit< tt), arc 4 (lit< tt) (lit< tt), arc 5 (lit< tt) (lit< tt), arc 6 (lit< tt) (lit< tt), arc 7 (lit< tt) (lit< tt), arc 8 (lit< tt) (lit< tt))
 
 -- the conditions of day n, in the order in which they are tested
 module _ (q : Query) (n : ℕ) where
-  pub sun-not-met : arcMet (q .arcs) (pairAt n) 0 ≡ false → conditionsMet q n ≡ false
+  pub sun-not-met : bodyMet (q .arcs) (pairAt n) 0 ≡ false → conditionsMet q n ≡ false
   unfolding conditionsMet arcsMet
   sun-not-met e = rw e
 
-  pub weekday-not-met : meets (q .weekday) (weekdayOn n) ≡ false → conditionsMet q n ≡ false
+  pub weekday-not-met : weekdayMet (q .weekdays) (weekdayOn n) ≡ false → conditionsMet q n ≡ false
   unfolding conditionsMet
   weekday-not-met e = rw e (and-false (arcsMet (q .arcs) (pairAt n)))
 
-  pub others-decide : isEdition (q .edition) ≡ true → n ≤ lastDay → arcMet (q .arcs) (pairAt n) 0 ≡ true → meets (q .weekday) (weekdayOn n) ≡ true → conditionsMet q n ≡ othersMet q (pairAt n)
+  pub others-decide : isEdition (q .edition) ≡ true → n ≤ lastDay → bodyMet (q .arcs) (pairAt n) 0 ≡ true → weekdayMet (q .weekdays) (weekdayOn n) ≡ true → conditionsMet q n ≡ othersMet q (pairAt n)
   unfolding conditionsMet arcsMet othersMet otherArcsMet
   others-decide edition h e w = rw (e, w, edition, pair-in-range n h)

@@ -1,33 +1,77 @@
 -- The conditions of a query: when they are in range, and when a day meets them.
 -- Assumes nothing.
 use mathlib.Core.Bool.{Bool, true, false, cond, _&&_, _||_}
-use mathlib.Core.List.{List}
-use Prim.Native.Nat.{ℕ}
+use mathlib.Core.List.{List, [], _∷_}
+use Prim.Native.Nat.{ℕ, min}
 use lib.Dec.{leb, ltb, eqb}
 use lib.ListN.{getD}
 use Rattle.days.specs.declared.Day.{Day}
 use Rattle.days.specs.Days.{inRange}
+use Rattle.days.specs.Weekdays.{bitOf, inSet, everyWeekday}
 use Rattle.longitudes.specs.Longitudes.{circle, longitudeAt, differenceOf}
 use Rattle.panchanga.specs.TrueLongitudes.{isEdition}
 use Rattle.panchanga.specs.OnDays.{tithiAt, nakshatraAt, yogaAt}
 use Rattle.query.specs.declared.Asked.{Asked}
+use Rattle.query.specs.declared.Weekdays.{Weekdays}
 use Rattle.query.specs.declared.Arc.{Arc}
+use Rattle.query.specs.declared.BodyArcs.{BodyArcs}
 use Rattle.query.specs.declared.Query.{Query}
 
--- no number asked for, and no arc
+-- no number asked for, no weekdays, no arc, and no arc of a body
 abbrev pub notAsked : Asked
 notAsked = record { given = false; value = 0 }
 
+abbrev pub noWeekdays : Weekdays
+noWeekdays = record { given = false; set = 0 }
+
 abbrev pub noArc : Arc
 noArc = record { given = false; start = 0; width = 0 }
+
+abbrev pub noArcs : BodyArcs
+noArcs = record { first = noArc; second = noArc }
+
+-- one weekday alone, and one arc alone
+abbrev pub onlyWeekday : ℕ → Weekdays
+onlyWeekday w = record { given = true; set = bitOf w }
+
+abbrev pub onlyArc : Arc → BodyArcs
+onlyArc a = record { first = a; second = noArc }
 
 -- a number is the one asked for, where one is given
 unfoldable pub meets : Asked → ℕ → Bool
 meets a n = cond (a .given) (eqb n (a .value)) true
 
--- a longitude is in the arc, where one is given: longitude − start, reduced by whole circles, is below the width
+-- a weekday is one of those that will do, where they are given
+unfoldable pub weekdayMet : Weekdays → ℕ → Bool
+weekdayMet a w = cond (a .given) (inSet (a .set) w) true
+
+-- the arcs that are given, of one or two
+abbrev pub ifGiven : Arc → List Arc → List Arc
+ifGiven a others = cond (a .given) (a ∷ others) others
+
+unfoldable pub givenArcs : BodyArcs → List Arc
+givenArcs a = ifGiven (a .first) (ifGiven (a .second) [])
+
+abbrev pub arcsGiven : BodyArcs → Bool
+arcsGiven a = a .first .given || a .second .given
+
+-- a longitude is in an arc: longitude − start, reduced by whole circles, is below the width
 unfoldable pub inArc : Arc → ℕ → Bool
-inArc a x = cond (a .given) (ltb (differenceOf x (a .start)) (a .width)) true
+inArc a x = ltb (differenceOf x (a .start)) (a .width)
+
+-- a longitude is in one of some arcs
+unfoldable pub inSome : List Arc → ℕ → Bool
+inSome [] x = false
+inSome (a ∷ others) x = inArc a x || inSome others x
+
+-- a longitude will do: where no arc is given every one, else what is in one of those given
+unfoldable pub inArcs : BodyArcs → ℕ → Bool
+inArcs a x = cond (arcsGiven a) (inSome (givenArcs a) x) true
+
+-- the seconds forward from a longitude to the nearest start of some arcs; a circle where there are none
+unfoldable pub nearestStart : List Arc → ℕ → ℕ
+nearestStart [] x = circle
+nearestStart (a ∷ others) x = min (differenceOf (a .start) x) (nearestStart others x)
 
 -- a test holds for each body but the Sun, for some of these, for each of the nine
 abbrev pub eachOther : (ℕ → Bool) → Bool
@@ -39,19 +83,19 @@ someOther p = p 1 || (p 2 || (p 3 || (p 4 || (p 5 || (p 6 || (p 7 || p 8))))))
 abbrev pub eachBody : (ℕ → Bool) → Bool
 eachBody p = p 0 && eachOther p
 
--- the arc of a body
-abbrev pub arcAt : List Arc → ℕ → Arc
-arcAt arcs body = getD arcs body noArc
+-- the arcs of a body
+abbrev pub arcsAt : List BodyArcs → ℕ → BodyArcs
+arcsAt arcs body = getD arcs body noArcs
 
--- a body's mean longitude is in its arc
-abbrev pub arcMet : List Arc → Day → ℕ → Bool
-arcMet arcs d body = inArc (arcAt arcs body) (longitudeAt body d)
+-- a body's mean longitude will do
+abbrev pub bodyMet : List BodyArcs → Day → ℕ → Bool
+bodyMet arcs d body = inArcs (arcsAt arcs body) (longitudeAt body d)
 
-unfoldable pub arcsMet : List Arc → Day → Bool
-arcsMet arcs d = eachBody (arcMet arcs d)
+unfoldable pub arcsMet : List BodyArcs → Day → Bool
+arcsMet arcs d = eachBody (bodyMet arcs d)
 
-unfoldable pub otherArcsMet : List Arc → Day → Bool
-otherArcsMet arcs d = eachOther (arcMet arcs d)
+unfoldable pub otherArcsMet : List BodyArcs → Day → Bool
+otherArcsMet arcs d = eachOther (bodyMet arcs d)
 
 -- in the query's edition
 unfoldable pub elementsMet : Query → Day → Bool
@@ -59,15 +103,15 @@ elementsMet q d =
     meets (q .tithi) (tithiAt (q .edition) d)
     && (meets (q .nakshatra) (nakshatraAt (q .edition) d) && meets (q .yoga) (yogaAt (q .edition) d))
 
--- a day meets all conditions beside the Sun's arc and the weekday; a pair out of range is no day, and a number that is no edition has no elements
+-- a day meets all conditions beside the Sun's arcs and the weekdays; a pair out of range is no day, and a number that is no edition has no elements
 unfoldable pub othersMet : Query → Day → Bool
 othersMet q d = isEdition (q .edition) && (inRange d && (otherArcsMet (q .arcs) d && elementsMet q d))
 
 -- an arc of another body than the Sun is given
-unfoldable pub otherArcsGiven : List Arc → Bool
-otherArcsGiven arcs = someOther (λ (body : ℕ). arcAt arcs body .given)
+unfoldable pub otherArcsGiven : List BodyArcs → Bool
+otherArcsGiven arcs = someOther (λ (body : ℕ). arcsGiven (arcsAt arcs body))
 
--- something is asked beside the Sun's arc and the weekday
+-- something is asked beside the Sun's arcs and the weekdays
 unfoldable pub asksMore : Query → Bool
 asksMore q = q .tithi .given || (q .nakshatra .given || (q .yoga .given || otherArcsGiven (q .arcs)))
 
@@ -75,15 +119,22 @@ asksMore q = q .tithi .given || (q .nakshatra .given || (q .yoga .given || other
 unfoldable pub askedInRange : Asked → ℕ → Bool
 askedInRange a largest = cond (a .given) (leb (a .value) largest) true
 
+-- a set that is given has a weekday, and nothing but the seven
+unfoldable pub weekdaysInRange : Weekdays → Bool
+weekdaysInRange a = cond (a .given) (leb 1 (a .set) && leb (a .set) everyWeekday) true
+
 -- an arc that is given has a start below the circle and a width from 1 to the circle
 unfoldable pub arcInRange : Arc → Bool
 arcInRange a = cond (a .given) (ltb (a .start) circle && (leb 1 (a .width) && leb (a .width) circle)) true
 
-unfoldable pub arcsInRange : List Arc → Bool
-arcsInRange arcs = eachBody (λ (body : ℕ). arcInRange (arcAt arcs body))
+unfoldable pub bodyArcsInRange : BodyArcs → Bool
+bodyArcsInRange a = arcInRange (a .first) && arcInRange (a .second)
 
--- weekday 6, tithi 29, nakshatra and yoga 26 are the largest
+unfoldable pub arcsInRange : List BodyArcs → Bool
+arcsInRange arcs = eachBody (λ (body : ℕ). bodyArcsInRange (arcsAt arcs body))
+
+-- tithi 29, nakshatra and yoga 26 are the largest
 unfoldable pub conditionsInRange : Query → Bool
 conditionsInRange q =
-    askedInRange (q .weekday) 6
+    weekdaysInRange (q .weekdays)
     && (askedInRange (q .tithi) 29 && (askedInRange (q .nakshatra) 26 && (askedInRange (q .yoga) 26 && arcsInRange (q .arcs))))

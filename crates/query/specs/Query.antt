@@ -6,17 +6,17 @@ use lib.Dec.{leb}
 use Rattle.days.specs.Refusals.{accepted, outOfRange, lastBeforeFirst, badCondition, badEdition}
 use Rattle.days.specs.Days.{lastDay, weekdayOn, pairAt}
 use Rattle.panchanga.specs.TrueLongitudes.{isEdition}
-use Rattle.query.specs.declared.Arc.{Arc}
+use Rattle.query.specs.declared.BodyArcs.{BodyArcs}
 use Rattle.query.specs.declared.Query.{Query}
-use Rattle.query.specs.Conditions.{meets, arcAt, arcsMet, elementsMet, conditionsInRange}
+use Rattle.query.specs.Conditions.{weekdayMet, arcsAt, arcsMet, elementsMet, conditionsInRange}
 
--- the Sun's arc
-abbrev pub sunArc : Query → Arc
-sunArc q = arcAt (q .arcs) 0
+-- the Sun's arcs
+abbrev pub sunArcs : Query → BodyArcs
+sunArcs q = arcsAt (q .arcs) 0
 
 -- day n meets all conditions given
 unfoldable pub conditionsMet : Query → ℕ → Bool
-conditionsMet q n = arcsMet (q .arcs) (pairAt n) && (meets (q .weekday) (weekdayOn n) && elementsMet q (pairAt n))
+conditionsMet q n = arcsMet (q .arcs) (pairAt n) && (weekdayMet (q .weekdays) (weekdayOn n) && elementsMet q (pairAt n))
 
 -- a day of the span: from the first day to the last, both counted
 abbrev pub inSpan : Query → ℕ → Bool

@@ -4,14 +4,17 @@ use days::refusal;
 use longitudes::Body;
 use longitudes::CIRCLE;
 ghost use mathlib.Core.Path.{_≡_};
-ghost use mathlib.Core.Bool.{true};
+ghost use mathlib.Core.Bool.{true, _&&_};
 ghost use Rattle.days.specs.Days.{inRange};
 ghost use Rattle.longitudes.specs.Longitudes.{longitudeAt};
 ghost use Rattle.longitudes.specs.Answers.{bodyNumber};
 ghost use Rattle.panchanga.specs.TrueLongitudes.{isEdition};
 ghost use Rattle.panchanga.specs.OnDays.{nakshatraAt};
-ghost use Rattle.query.specs.Conditions.{meets, inArc, askedInRange, arcInRange, arcsInRange, conditionsInRange, otherArcsMet, elementsMet, othersMet, otherArcsGiven, asksMore};
+ghost use Rattle.query.specs.Conditions.{onlyWeekday, onlyArc, meets, arcsGiven, givenArcs, inArc, inSome, inArcs, askedInRange, weekdaysInRange, arcInRange, bodyArcsInRange, arcsInRange, conditionsInRange, otherArcsMet, elementsMet, othersMet, otherArcsGiven, asksMore};
 ghost use Rattle.query.specs.Query.{refusalOf};
+
+// The set of all seven weekdays.
+const EVERY_WEEKDAY: u32 = 127;
 
 // A number that is asked for. Where it is not given, every number will do and `value` means nothing.
 pub struct Asked {
@@ -19,11 +22,23 @@ pub struct Asked {
     pub value: u32,
 }
 
-// An arc that a mean longitude is asked to be in, in seconds of arc. Where it is not given, every longitude will do.
+// The weekdays that will do, a bit for each, Monday's the lowest. Where they are not given, every weekday will do and `set` means nothing.
+pub struct Weekdays {
+    pub given: bool,
+    pub set: u32,
+}
+
+// An arc of longitudes, in seconds of arc. Where it is not given, its numbers mean nothing.
 pub struct Arc {
     pub given: bool,
     pub start: u32,
     pub width: u32,
+}
+
+// The arcs of a body, either of which will do. Where neither is given, every longitude will do.
+pub struct BodyArcs {
+    pub first: Arc,
+    pub second: Arc,
 }
 
 // Paper 01's reading: a first and a last day, both counted, paper 02's edition, by which the elements are reckoned, and the conditions; the arcs in the order of the bodies.
@@ -31,11 +46,11 @@ pub struct Query {
     pub first: u32,
     pub last: u32,
     pub edition: u32,
-    pub weekday: Asked,
+    pub weekdays: Weekdays,
     pub tithi: Asked,
     pub nakshatra: Asked,
     pub yoga: Asked,
-    pub arcs: [Arc; 9],
+    pub arcs: [BodyArcs; 9],
 }
 
 impl Asked {
@@ -65,6 +80,33 @@ impl Asked {
     }
 }
 
+impl Weekdays {
+    pub const NONE: Weekdays = Weekdays {
+        given: false,
+        set: 0,
+    };
+
+    // One weekday alone. A number that is no weekday makes a set that is refused.
+    pub fn only(weekday: u32) -> Weekdays
+        ensures { λ r. ⌜ r ≡ onlyWeekday weekday ⌝ }
+    {
+        let set = days::weekday_bit(weekday);
+        Weekdays { given: true, set }
+    }
+
+    fn in_range(self) -> bool
+        ensures { λ r. ⌜ r ≡ weekdaysInRange self ⌝ }
+    {
+        if self.given {
+            if 1 <= self.set {
+                return self.set <= EVERY_WEEKDAY;
+            }
+            return false;
+        }
+        true
+    }
+}
+
 impl Arc {
     pub const NONE: Arc = Arc {
         given: false,
@@ -85,15 +127,77 @@ impl Arc {
         }
         true
     }
+
+    // Whether it is given and has a longitude.
+    fn has(self, longitude: u32) -> bool
+        ensures { λ r. ⌜ r ≡ (self .given && inArc self longitude) ⌝ }
+    {
+        if self.given {
+            let past = longitudes::difference(longitude, self.start);
+            past < self.width
+        } else {
+            false
+        }
+    }
 }
 
-fn arcs_in_range(arcs: [Arc; 9]) -> bool
+impl BodyArcs {
+    pub const NONE: BodyArcs = BodyArcs {
+        first: Arc::NONE,
+        second: Arc::NONE,
+    };
+
+    // One arc alone.
+    pub fn only(arc: Arc) -> BodyArcs
+        ensures { λ r. ⌜ r ≡ onlyArc arc ⌝ }
+    {
+        BodyArcs {
+            first: arc,
+            second: Arc::NONE,
+        }
+    }
+
+    pub fn given(self) -> bool
+        ensures { λ r. ⌜ r ≡ arcsGiven self ⌝ }
+    {
+        if self.first.given {
+            true
+        } else {
+            self.second.given
+        }
+    }
+
+    fn in_range(self) -> bool
+        ensures { λ r. ⌜ r ≡ bodyArcsInRange self ⌝ }
+    {
+        let first = self.first;
+        let second = self.second;
+        if first.in_range() {
+            second.in_range()
+        } else {
+            false
+        }
+    }
+
+    // Whether one that is given has a longitude.
+    fn have(self, longitude: u32) -> bool
+        ensures { λ r. ⌜ r ≡ inSome (givenArcs self) longitude ⌝ }
+    {
+        let first = self.first;
+        let second = self.second;
+        let in_first = first.has(longitude);
+        let in_second = second.has(longitude);
+        if in_first { in_first } else { in_second }
+    }
+}
+
+fn arcs_in_range(arcs: [BodyArcs; 9]) -> bool
     ensures { λ r. ⌜ r ≡ arcsInRange arcs ⌝ }
 {
     let mut body = 0;
     while body < 9 {
-        let arc = arcs[body];
-        if !arc.in_range() {
+        let of_body = arcs[body];
+        if !of_body.in_range() {
             return false;
         }
         body += 1;
@@ -104,8 +208,8 @@ fn arcs_in_range(arcs: [Arc; 9]) -> bool
 fn conditions_in_range(query: Query) -> bool
     ensures { λ r. ⌜ r ≡ conditionsInRange query ⌝ }
 {
-    let weekday = query.weekday;
-    if !weekday.in_range(6) {
+    let weekdays = query.weekdays;
+    if !weekdays.in_range() {
         return false;
     }
     let tithi = query.tithi;
@@ -149,26 +253,25 @@ impl Query {
     }
 }
 
-fn in_arc(arc: Arc, body: Body, day: Day) -> bool
+fn in_arcs(arcs: BodyArcs, body: Body, day: Day) -> bool
     requires { ⌜ inRange day ≡ true ⌝ }
-    ensures { λ r. ⌜ r ≡ inArc arc (longitudeAt (bodyNumber body) day) ⌝ }
+    ensures { λ r. ⌜ r ≡ inArcs arcs (longitudeAt (bodyNumber body) day) ⌝ }
 {
-    if arc.given {
+    if arcs.given() {
         let found = longitudes::mean_longitude(body, day);
-        let past = longitudes::difference(found.seconds, arc.start);
-        past < arc.width
+        arcs.have(found.seconds)
     } else {
         true
     }
 }
 
-fn other_arcs_given(arcs: [Arc; 9]) -> bool
+fn other_arcs_given(arcs: [BodyArcs; 9]) -> bool
     ensures { λ r. ⌜ r ≡ otherArcsGiven arcs ⌝ }
 {
     let mut body = 1;
     while body < 9 {
-        let arc = arcs[body];
-        if arc.given {
+        let of_body = arcs[body];
+        if of_body.given() {
             return true;
         }
         body += 1;
@@ -177,32 +280,32 @@ fn other_arcs_given(arcs: [Arc; 9]) -> bool
 }
 
 // The arcs of all bodies but the Sun.
-fn other_arcs_met(arcs: [Arc; 9], day: Day) -> bool
+fn other_arcs_met(arcs: [BodyArcs; 9], day: Day) -> bool
     requires { ⌜ inRange day ≡ true ⌝ }
     ensures { λ r. ⌜ r ≡ otherArcsMet arcs day ⌝ }
 {
-    if !in_arc(arcs[1], Body::Moon, day) {
+    if !in_arcs(arcs[1], Body::Moon, day) {
         return false;
     }
-    if !in_arc(arcs[2], Body::MoonApogee, day) {
+    if !in_arcs(arcs[2], Body::MoonApogee, day) {
         return false;
     }
-    if !in_arc(arcs[3], Body::MoonNode, day) {
+    if !in_arcs(arcs[3], Body::MoonNode, day) {
         return false;
     }
-    if !in_arc(arcs[4], Body::Mars, day) {
+    if !in_arcs(arcs[4], Body::Mars, day) {
         return false;
     }
-    if !in_arc(arcs[5], Body::MercuryAnomaly, day) {
+    if !in_arcs(arcs[5], Body::MercuryAnomaly, day) {
         return false;
     }
-    if !in_arc(arcs[6], Body::Jupiter, day) {
+    if !in_arcs(arcs[6], Body::Jupiter, day) {
         return false;
     }
-    if !in_arc(arcs[7], Body::VenusAnomaly, day) {
+    if !in_arcs(arcs[7], Body::VenusAnomaly, day) {
         return false;
     }
-    in_arc(arcs[8], Body::Saturn, day)
+    in_arcs(arcs[8], Body::Saturn, day)
 }
 
 // True longitudes take long to reckon: this is done only where an element is asked for, the Sun's only for a tithi or a yoga.
@@ -240,7 +343,7 @@ fn nakshatra_met(asked: Asked, edition: u32, day: Day) -> bool
     }
 }
 
-// Whether a day meets all conditions beside the Sun's arc and the weekday: the other bodies' arcs, then the elements. A pair that is no day meets none, nor does any day those of a query without an edition.
+// Whether a day meets all conditions beside the Sun's arcs and the weekdays: the other bodies' arcs, then the elements. A pair that is no day meets none, nor does any day those of a query without an edition.
 pub fn others_met(query: Query, day: Day) -> bool
     ensures { λ r. ⌜ r ≡ othersMet query day ⌝ }
 {
@@ -257,7 +360,7 @@ pub fn others_met(query: Query, day: Day) -> bool
     elements_met(query, day)
 }
 
-// Whether anything is asked beside the Sun's arc and the weekday.
+// Whether anything is asked beside the Sun's arcs and the weekdays.
 pub fn asks_more(query: Query) -> bool
     ensures { λ r. ⌜ r ≡ asksMore query ⌝ }
 {

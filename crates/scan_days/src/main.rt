@@ -7,22 +7,25 @@ use longitudes::Body;
 use panchanga::FIRST_EDITION;
 use query::Arc;
 use query::Asked;
+use query::BodyArcs;
 use query::Query;
+use query::Weekdays;
 use search::Examined;
 
 // Days 0 to 729, the Sun's arc from 0, width 3600.
 fn worked() -> Query {
-    let mut arcs = [Arc::NONE; 9];
-    arcs[0] = Arc {
+    let mut arcs = [BodyArcs::NONE; 9];
+    let sun = BodyArcs::only(Arc {
         given: true,
         start: 0,
         width: 3600,
-    };
+    });
+    arcs[0] = sun;
     Query {
         first: 0,
         last: 729,
         edition: FIRST_EDITION,
-        weekday: Asked::NONE,
+        weekdays: Weekdays::NONE,
         tithi: Asked::NONE,
         nakshatra: Asked::NONE,
         yoga: Asked::NONE,
@@ -36,7 +39,8 @@ fn print(number: u32, end: &[u8]) {
 }
 
 fn show_query(query: Query) {
-    let arc = query.arcs[0];
+    let sun = query.arcs[0];
+    let arc = sun.first;
     print(query.first, b" ");
     print(query.last, b" ");
     print(arc.start, b" ");

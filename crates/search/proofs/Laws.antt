@@ -14,8 +14,8 @@ use borrow.Author.Tests.{leb-true, le-leb, eqb-true, eqb-false, eq-eqb}
 use Rattle.days.specs.Days.{lastDay, theNumber}
 use Rattle.entries.specs.Entries.{withEntries, capacity, entryAt}
 use Rattle.query.specs.declared.Query.{Query}
-use Rattle.query.specs.Conditions.{arcInRange}
-use Rattle.query.specs.Query.{sunArc, conditionsMet, matches, refusalOf}
+use Rattle.query.specs.Conditions.{bodyArcsInRange}
+use Rattle.query.specs.Query.{sunArcs, conditionsMet, matches, refusalOf}
 use Rattle.panchanga.specs.TrueLongitudes.{isEdition}
 use Rattle.query.proofs.Accepted.{accepted-by}
 use Rattle.search.specs.Look.{nextDay, notExamined, examinedOf}
@@ -173,7 +173,7 @@ pub bound-not-reached : (q : Query) (n : ℕ) → refusalOf q ≡ 0 → spanLeng
 unfolding visitedDays
 bound-not-reached q n e h = bound q (accepted-by q e .sun) n (spanLength q) (q .first) h (omega arith)
 
-module _ (q : Query) (r : arcInRange (sunArc q) ≡ true) where
+module _ (q : Query) (r : bodyArcsInRange (sunArcs q) ≡ true) where
   visits-from : (n d : ℕ) → Ascending d (visitedFrom q n d)
   visits-from zero d = unfold Ascending visitedFrom in tt
   visits-from (suc n) d = go (decLe d (q .last)) (visits-from n (nextDay q d))

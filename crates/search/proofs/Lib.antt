@@ -9,3 +9,4 @@ pub mod Passes
 pub mod Answers
 pub mod Laws
 pub mod Spans
+pub mod Single

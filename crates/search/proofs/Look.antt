@@ -1,4 +1,4 @@
--- What the look says of a day, by the outcomes of its tests: no such day, refused, the Sun outside its arc, inside it, in the span and outside it.
+-- What the look says of a day, by the outcomes of its tests: no such day, refused, the Sun outside its arcs, inside one, in the span and outside it.
 -- Assumes nothing.
 use mathlib.Core.Path.{_≡_, refl, ap, sym, _∙_}
 use mathlib.Core.Bool.{Bool, true, false, cond, not, _&&_, false≢true}
@@ -9,29 +9,28 @@ use borrow.Author.Tests.{leb-true, le-leb, lt-leb, eq-eqb, ne-eqb, not-true, not
 use Rattle.days.specs.declared.Day.{Day}
 use Rattle.days.specs.Days.{lastDay, pairAt, weekdayOn}
 use Rattle.days.proofs.Laws.{pair-in-range}
-use Rattle.longitudes.specs.Longitudes.{circle}
 use Rattle.panchanga.specs.TrueLongitudes.{isEdition}
 use Rattle.query.specs.declared.Query.{Query}
-use Rattle.query.specs.Query.{sunArc, conditionsMet, inSpan, matches, refusalOf}
-use Rattle.query.specs.Conditions.{meets, othersMet, asksMore}
+use Rattle.query.specs.Query.{sunArcs, conditionsMet, inSpan, matches, refusalOf}
+use Rattle.query.specs.Conditions.{weekdayMet, arcsGiven, othersMet, asksMore}
 use Rattle.query.proofs.Accepted.{accepted-by, edition-refused, edition-accepted}
 use Rattle.query.proofs.Conditions.{weekday-not-met, others-decide, no-more}
+use Rattle.search.specs.declared.Approach.{Approach}
 use Rattle.search.specs.declared.Examined.{Examined}
-use Rattle.search.specs.Look.{sunInArc, nextDay, notExamined, examinedOf}
-use Rattle.search.specs.Passes.{examinedAnyDay}
-use Rattle.search.proofs.Circle.{past}
-use Rattle.search.proofs.Arc.{past-out, next-in, next-out}
+use Rattle.search.specs.Look.{sunOn, sunInArcs, nextDay, notExamined, examinedOf}
+use Rattle.search.specs.Passes.{Approached, examinedAnyDay}
+use Rattle.search.proofs.Arc.{given-decides, next-in, next-out}
 use Rattle.search.proofs.Skip.{outside-unmatched}
 
 abbrev said : Bool → ℕ → Examined
 said matches next = record { refusal = 0; matches = matches; next = next }
 
--- day n, whose pair is d, has the Sun in its arc, or no such arc is given
+-- day n, whose pair is d, has the Sun in one of its arcs, or no such arc is given
 pub record Inside (q : Query) (n : ℕ) (d : Day) : Type 0 where
   pub edition : isEdition (q .edition) ≡ true
   pub low : n ≤ lastDay
   pub pair : d ≡ pairAt n
-  pub sun : sunInArc q n ≡ true
+  pub sun : sunInArcs q n ≡ true
 
 module _ (q : Query) (n : ℕ) where
   any-day : n ≤ lastDay → examinedAnyDay q n ≡ said (conditionsMet q n) (nextDay q n)
@@ -42,19 +41,19 @@ module _ (q : Query) (n : ℕ) where
   unfolding examinedAnyDay
   no-day h = rw (lt-leb n lastDay h)
 
-  -- inside the arc, or without one: the next day
-  inside : (found : Bool) → n ≤ lastDay → sunInArc q n ≡ true → conditionsMet q n ≡ found → said found (n + 1) ≡ examinedAnyDay q n
+  -- inside an arc, or without one: the next day
+  inside : (found : Bool) → n ≤ lastDay → sunInArcs q n ≡ true → conditionsMet q n ≡ found → said found (n + 1) ≡ examinedAnyDay q n
   inside found h i m = rw (any-day h, m, next-in q n i)
 
   -- the tests that follow inside, in turn: the weekday, whether more is asked, and what more
-  module _ (d : Day) (i : Inside q n d) (weekday : Bool) (w : weekday ≡ meets (q .weekday) (weekdayOn n)) where
+  module _ (d : Day) (i : Inside q n d) (weekday : Bool) (w : weekday ≡ weekdayMet (q .weekdays) (weekdayOn n)) where
     pub by-weekday : not weekday ≡ true → said false (n + 1) ≡ examinedAnyDay q n
     by-weekday f = inside false (i .low) (i .sun) (weekday-not-met q n (sym w ∙ not-true weekday f))
 
     by-others : (others : Bool) → not weekday ≡ false → othersMet q d ≡ others → said others (n + 1) ≡ examinedAnyDay q n
     by-others others t e =
         inside others (i .low) (i .sun)
-        (others-decide q n (i .edition) (i .low) (unfold sunInArc in i .sun) (sym w ∙ not-false weekday t) ∙ ap (othersMet q) (sym (i .pair)) ∙ e)
+        (others-decide q n (i .edition) (i .low) (unfold sunInArcs in i .sun) (sym w ∙ not-false weekday t) ∙ ap (othersMet q) (sym (i .pair)) ∙ e)
 
     pub by-no-more : (more : Bool) → not weekday ≡ false → more ≡ asksMore q → not more ≡ true → said true (n + 1) ≡ examinedAnyDay q n
     by-no-more more t e f = by-others true t (no-more q d (i .edition) (sym e ∙ not-true more f) (rw (i .pair) (pair-in-range n (i .low))))
@@ -64,14 +63,15 @@ module _ (q : Query) (n : ℕ) where
 
   -- outside: no match, and the jump
   pub outside :
+      (found : Approach) →
       n ≤ lastDay →
-      refusalOf q ≡ 0 →
-      sunArc q .given ≡ true →
-      sunArc q .width ≤ past (sunArc q .start) n →
-      said false (n + (circle - past (sunArc q .start) n + 3548) / 3549) ≡ examinedAnyDay q n
-  outside h e g w =
-      let f = past-out q n g w in
-      rw (any-day h, outside-unmatched q n f, next-out q (accepted-by q e .sun) n f)
+      arcsGiven (sunArcs q) ≡ true →
+      Approached (sunArcs q) (sunOn n) found →
+      found .inside ≡ false →
+      said false (n + (found .ahead + 3548) / 3549) ≡ examinedAnyDay q n
+  outside found h g a i =
+      let f = given-decides q n false g (sym (a .within) ∙ i) in
+      rw (any-day h, outside-unmatched q n f, next-out q n f, a .nearest i)
 
   -- refused: for the edition, for the day, and for what else the query is refused for
   module _ (refusal : ℕ) (e : refusal ≡ refusalOf q) where

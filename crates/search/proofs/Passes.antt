@@ -13,8 +13,8 @@ use Rattle.days.specs.Days.{lastDay}
 use Rattle.entries.specs.Entries.{capacity, withEntry}
 use Rattle.entries.proofs.Laws.{with-entry-length}
 use Rattle.query.specs.declared.Query.{Query}
-use Rattle.query.specs.Conditions.{arcInRange}
-use Rattle.query.specs.Query.{sunArc, conditionsMet, inSpan, refusalOf}
+use Rattle.query.specs.Conditions.{bodyArcsInRange}
+use Rattle.query.specs.Query.{sunArcs, conditionsMet, inSpan, refusalOf}
 use Rattle.query.proofs.Accepted.{accepted-by}
 use Rattle.search.specs.declared.Examined.{Examined}
 use Rattle.search.specs.declared.Place.{Place}
@@ -42,7 +42,7 @@ visit q d seen e f h s =
     let t : seen ≡ record { refusal = 0; matches = conditionsMet q d; next = nextDay q d } = s ∙ examined-at q d e (in-span q d f h) in
     record { handed = t; low = omega (arith, a .last); later = rw t (next-after q (a .sun) d) }
 
-module _ (q : Query) (r : arcInRange (sunArc q) ≡ true) where
+module _ (q : Query) (r : bodyArcsInRange (sunArcs q) ≡ true) where
   matches-in : (d : ℕ) → d ≤ q .last → conditionsMet q d ≡ true → matchesFrom q d ≡ d ∷ matchesFrom q (nextDay q d)
   matches-in d h f = ap (filtered (conditionsMet q)) (rest-more q r d h) ∙ filtered-in (conditionsMet q) d (visitsFrom q (nextDay q d)) f
 
@@ -113,7 +113,7 @@ pub record Latest (q : Query) (d latest : ℕ) : Type 0 where
   pub to-last : latest ≤ q .last
   pub quiet : (m : ℕ) → latest < m → m < d → conditionsMet q m ≡ false
 
-module _ (q : Query) (r : arcInRange (sunArc q) ≡ true) where
+module _ (q : Query) (r : bodyArcsInRange (sunArcs q) ≡ true) where
   latest-start : q .first ≤ q .last → (d : ℕ) → d ≡ q .first → Latest q d d
   latest-start h d e = record { from-first = omega arith; to-last = omega arith; quiet = λ m a b. absurd (omega arith) }
 
@@ -219,7 +219,7 @@ module _ (q : Query) (start : Place) (count : ℕ) (output : List ℕ) (e : refu
             full next here not (no l) g = rw (not (omega arith)) (s .late (omega arith))
 
             one-more :
-                arcInRange (sunArc q) ≡ true →
+                bodyArcsInRange (sunArcs q) ≡ true →
                 seen .matches ≡ true →
                 withEntriesFrom (withEntry output′ n (place .day)) (n + 1) (matchesFrom q (nextDay q (place .day))) ≡ withEntriesFrom output′ n (matchesFrom q (place .day))
             one-more r f = sym (ap (withEntriesFrom output′ n) (matches-in q r (place .day) h (matched true f)) ∙ unfold withEntriesFrom in refl)

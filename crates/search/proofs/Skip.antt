@@ -1,4 +1,4 @@
--- The scan passes over no day with the Sun in its arc, so filtering the visited days filters the span; by induction on the days left.
+-- The scan passes over no day with the Sun in one of its arcs, so filtering the visited days filters the span; by induction on the days left.
 -- Assumes nothing.
 use Prim.Native.Nat.{ℕ, zero, suc, _+_, _-_, _≤_, _<_}
 use mathlib.Core.Path.{_≡_, refl, ap, sym, _∙_}
@@ -9,31 +9,30 @@ use native.Mathlib.Decide.{decLe}
 use lib.Dec.{leb}
 use borrow.Author.Tests.{leb-true, leb-false, le-leb, lt-leb}
 use Rattle.query.specs.declared.Query.{Query}
-use Rattle.query.specs.Conditions.{arcInRange}
-use Rattle.query.specs.Query.{sunArc, conditionsMet}
+use Rattle.query.specs.Conditions.{givenArcs, bodyArcsInRange}
+use Rattle.query.specs.Query.{sunArcs, conditionsMet}
 use Rattle.query.proofs.Conditions.{sun-not-met}
-use Rattle.search.specs.Look.{sunInArc, nextDay}
+use Rattle.search.specs.Look.{sunInArcs, nextDay}
 use Rattle.search.specs.Days.{filtered, daysFrom, spanLength, span, matchingDays, visitedFrom, visitedDays}
-use Rattle.search.proofs.Circle.{past, past-grows}
-use Rattle.search.proofs.Arc.{in-circle, out-past, past-out, next-in, next-out, next-after}
+use Rattle.search.proofs.Arc.{given-in-circle, outside-each, each-outside, stays-outside, outside-given, given-decides, next-in, next-out, next-after}
 use Rattle.search.proofs.Filter.{filtered-at, filtered-cons, filtered-front}
 
 -- the visits from day d on
 abbrev pub rest : Query → ℕ → List ℕ
 rest q d = visitedFrom q (q .last + 1 - d) d
 
-module _ (q : Query) (r : arcInRange (sunArc q) ≡ true) where
-  -- a day between a visited day and the next is outside the arc
-  pub skipped : (d j : ℕ) → 0 < j → d + j < nextDay q d → sunInArc q (d + j) ≡ false
-  skipped d j h l = go (sunInArc q d) refl
+module _ (q : Query) (r : bodyArcsInRange (sunArcs q) ≡ true) where
+  -- a day between a visited day and the next is outside the arcs
+  pub skipped : (d j : ℕ) → 0 < j → d + j < nextDay q d → sunInArcs q (d + j) ≡ false
+  skipped d j h l = go (sunInArcs q d) refl
     where
-      go : (b : Bool) → sunInArc q d ≡ b → sunInArc q (d + j) ≡ false
+      go : (b : Bool) → sunInArcs q d ≡ b → sunInArcs q (d + j) ≡ false
       go true e = absurd (omega (arith, next-in q d e))
       go false e =
-          let f = out-past q d e in
-          let a = in-circle (sunArc q) r (f .0) in
-          let g : past (sunArc q .start) d ≤ past (sunArc q .start) (d + j) = past-grows (sunArc q .start) d j (omega arith) (omega (arith, next-out q r d e)) in
-          past-out q (d + j) (f .0) (omega arith)
+          let f = outside-given q d e in
+          let given = givenArcs (sunArcs q) in
+          given-decides q (d + j) false (f .0)
+          (each-outside given (d + j) (stays-outside given (given-in-circle (sunArcs q) r) d j (outside-each given d (f .1)) (omega (arith, next-out q d e))))
 
   -- the scan, a day at a time
   pub visit-end : (n d : ℕ) → q .last < d → visitedFrom q n d ≡ []
@@ -65,7 +64,7 @@ module _ (q : Query) (r : arcInRange (sunArc q) ≡ true) where
       ∙ visit-more (q .last - d) d h
       ∙ ap (λ (l : List ℕ). d ∷ l) (bound (q .last - d) (q .last + 1 - nextDay q d) (nextDay q d) (omega (arith, next-after q r d)) (omega arith))
 
-  module _ (p : ℕ → Bool) (inside : (d : ℕ) → sunInArc q d ≡ false → p d ≡ false) where
+  module _ (p : ℕ → Bool) (inside : (d : ℕ) → sunInArcs q d ≡ false → p d ≡ false) where
     -- what is left of the span after d, and of the span from the next day on
     after : (d : ℕ) → filtered p (daysFrom (suc d) (q .last - d)) ≡ filtered p (daysFrom (nextDay q d) (q .last + 1 - nextDay q d))
     after d =
@@ -95,11 +94,11 @@ module _ (q : Query) (r : arcInRange (sunArc q) ≡ true) where
     unfolding visitedDays
     filtered-visited = filtered-visits (spanLength q) (q .first) (omega arith)
 
--- a day outside the Sun's arc does not meet the conditions
-pub outside-unmatched : (q : Query) (n : ℕ) → sunInArc q n ≡ false → conditionsMet q n ≡ false
-unfolding sunInArc
+-- a day outside the Sun's arcs does not meet the conditions
+pub outside-unmatched : (q : Query) (n : ℕ) → sunInArcs q n ≡ false → conditionsMet q n ≡ false
+unfolding sunInArcs
 outside-unmatched q n e = sun-not-met q n e
 
-pub matching-visited : (q : Query) → arcInRange (sunArc q) ≡ true → filtered (conditionsMet q) (visitedDays q) ≡ matchingDays q
+pub matching-visited : (q : Query) → bodyArcsInRange (sunArcs q) ≡ true → filtered (conditionsMet q) (visitedDays q) ≡ matchingDays q
 unfolding matchingDays
 matching-visited q r = filtered-visited q r (conditionsMet q) (outside-unmatched q)

@@ -6,8 +6,9 @@ use Prim.Native.Nat.{ℕ, zero, suc, _+_, _-_, _*_, _/_}
 use lib.Dec.{leb}
 use lib.ListN.{length}
 use Rattle.query.specs.declared.Query.{Query}
-use Rattle.query.specs.Query.{conditionsMet}
-use Rattle.search.specs.Look.{sunInArc, nextDay}
+use Rattle.query.specs.Conditions.{givenArcs}
+use Rattle.query.specs.Query.{sunArcs, conditionsMet}
+use Rattle.search.specs.Look.{sunInArcs, nextDay}
 
 -- the elements of a list that pass a test, in their order
 unfoldable pub filtered : (ℕ → Bool) → List ℕ → List ℕ
@@ -41,6 +42,7 @@ visitedFrom q (suc n) d = elim (leb d (q .last)) [ true ↦ d ∷ visitedFrom q 
 unfoldable pub visitedDays : Query → List ℕ
 visitedDays q = visitedFrom q (spanLength q) (q .first)
 
--- the days of the span with the mean Sun in its arc, plus four, plus two for each whole 360 days of the span
+-- the days of the span with the mean Sun in one of its arcs, plus for each arc that is given four, and two for each whole 360 days of the span: with two arcs
+-- eight and four. Where none is given the Sun may stand anywhere, and these are all days of the span
 unfoldable pub visitLimit : Query → ℕ
-visitLimit q = length (filtered (sunInArc q) (span q)) + 4 + 2 * (spanLength q / 360)
+visitLimit q = length (filtered (sunInArcs q) (span q)) + length (givenArcs (sunArcs q)) * (4 + 2 * (spanLength q / 360))

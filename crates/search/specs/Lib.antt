@@ -3,3 +3,4 @@ pub mod Days
 pub mod Search
 pub mod Passes
 pub mod Spans
+pub mod Single

@@ -6,28 +6,28 @@ use lib.Dec.{leb, eqb}
 use Rattle.days.specs.Refusals.{accepted, outOfRange, badEdition}
 use Rattle.days.specs.Days.{lastDay, pairAt}
 use Rattle.integers.specs.RoundedUp.{roundedUp}
-use Rattle.longitudes.specs.Longitudes.{differenceOf, longitudeAt}
+use Rattle.longitudes.specs.Longitudes.{longitudeAt}
 use Rattle.panchanga.specs.TrueLongitudes.{isEdition}
 use Rattle.query.specs.declared.Query.{Query}
-use Rattle.query.specs.Conditions.{inArc}
-use Rattle.query.specs.Query.{sunArc, matches, refusalOf}
+use Rattle.query.specs.Conditions.{givenArcs, inArcs, nearestStart}
+use Rattle.query.specs.Query.{sunArcs, matches, refusalOf}
 use Rattle.search.specs.declared.Examined.{Examined}
 
 -- the mean Sun of day n
 abbrev pub sunOn : ℕ → ℕ
 sunOn n = longitudeAt 0 (pairAt n)
 
--- the mean Sun of day n is in the Sun's arc, where one is given
-unfoldable pub sunInArc : Query → ℕ → Bool
-sunInArc q n = inArc (sunArc q) (sunOn n)
+-- the mean Sun of day n is in one of the Sun's arcs, where any are given
+unfoldable pub sunInArcs : Query → ℕ → Bool
+sunInArcs q n = inArcs (sunArcs q) (sunOn n)
 
--- the seconds forward from day n's mean Sun to the start of the Sun's arc: paper 01's g
+-- the seconds forward from day n's mean Sun to the nearer start of the Sun's arcs that are given: paper 01's g, as paper 02's L9 measures it
 abbrev pub secondsAhead : Query → ℕ → ℕ
-secondsAhead q n = differenceOf (sunArc q .start) (sunOn n)
+secondsAhead q n = nearestStart (givenArcs (sunArcs q)) (sunOn n)
 
--- the day that the walk takes after day n: the next one, or from outside the arc the one g / 3549, rounded up, later
+-- the day that the walk takes after day n: the next one, or from outside the arcs the one g / 3549, rounded up, later
 unfoldable pub nextDay : Query → ℕ → ℕ
-nextDay q n = cond (sunInArc q n) (n + 1) (n + roundedUp (secondsAhead q n) 3549)
+nextDay q n = cond (sunInArcs q n) (n + 1) (n + roundedUp (secondsAhead q n) 3549)
 
 -- a refused look: all zeros
 abbrev pub notExamined : ℕ → Examined

@@ -1,6 +1,6 @@
--- What only contracts of private functions speak of: the look without the span, the walk's turn, and what the passes over the visited days rely on and leave.
+-- What only contracts of private functions speak of: where a longitude stands to a body's arcs, the look without the span, the walk's turn, and what the passes over the visited days rely on and leave.
 -- Assumes nothing.
-use mathlib.Core.Bool.{false, cond}
+use mathlib.Core.Bool.{Bool, true, false, cond, _&&_}
 use mathlib.Core.List.{List, [], _∷_}
 use mathlib.Core.Path.{_≡_}
 use Prim.Native.Nat.{ℕ, _+_, _-_, _<_, _≤_}
@@ -9,13 +9,34 @@ use lib.ListN.{length, drop}
 use Rattle.days.specs.Refusals.{accepted, outOfRange}
 use Rattle.days.specs.Days.{lastDay}
 use Rattle.entries.specs.Entries.{withEntry}
+use Rattle.longitudes.specs.Longitudes.{circle, differenceOf}
+use Rattle.query.specs.declared.Arc.{Arc}
+use Rattle.query.specs.declared.BodyArcs.{BodyArcs}
 use Rattle.query.specs.declared.Query.{Query}
+use Rattle.query.specs.Conditions.{givenArcs, inArc, inSome, nearestStart}
 use Rattle.query.specs.Query.{conditionsMet, refusalOf}
 use Rattle.search.specs.declared.Examined.{Examined}
+use Rattle.search.specs.declared.Approach.{Approach}
 use Rattle.search.specs.declared.Place.{Place}
 use Rattle.search.specs.declared.Tally.{Tally}
 use Rattle.search.specs.Look.{nextDay, notExamined}
 use Rattle.search.specs.Days.{filtered, matchingDays, visitedFrom, visitedDays}
+
+-- of a body's arcs the first that is given, or the second; and both are given
+unfoldable pub leadingArc : BodyArcs → Arc
+leadingArc a = cond (a .first .given) (a .first) (a .second)
+
+unfoldable pub bothGiven : BodyArcs → Bool
+bothGiven a = a .first .given && a .second .given
+
+-- a longitude is in an arc, or the rest of the circle lies between it and the start
+unfoldable pub approachTo : Arc → ℕ → Approach
+approachTo a x = cond (inArc a x) (record { inside = true; ahead = 0 }) (record { inside = false; ahead = circle - differenceOf x (a .start) })
+
+-- a longitude is in one of the arcs that are given, or so far from the nearer start
+pub record Approached (a : BodyArcs) (x : ℕ) (found : Approach) : Type 0 where
+  pub within : found .inside ≡ inSome (givenArcs a) x
+  pub nearest : found .inside ≡ false → found .ahead ≡ nearestStart (givenArcs a) x
 
 -- the look at day n for a query that is not refused, with the conditions alone in place of a fitting day
 unfoldable pub examinedAnyDay : Query → ℕ → Examined

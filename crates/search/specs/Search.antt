@@ -1,7 +1,7 @@
 -- What a search hands back, and what it leaves in the list of entries.
 -- Assumes nothing.
 use mathlib.Core.Path.{_≡_}
-use mathlib.Core.Bool.{true, cond}
+use mathlib.Core.Bool.{cond}
 use mathlib.Core.List.{List}
 use Prim.Native.Nat.{ℕ, _≤_}
 use lib.Dec.{leb, eqb}
@@ -9,7 +9,7 @@ use lib.ListN.{length}
 use Rattle.days.specs.Refusals.{accepted, listTooShort}
 use Rattle.entries.specs.Entries.{capacity, withEntries}
 use Rattle.query.specs.declared.Query.{Query}
-use Rattle.query.specs.Query.{sunArc, refusalOf}
+use Rattle.query.specs.Query.{refusalOf}
 use Rattle.search.specs.declared.Found.{Found}
 use Rattle.search.specs.Days.{matchingDays, visitedDays, visitLimit}
 
@@ -31,12 +31,12 @@ pub record Measured (q : Query) (found : Found) : Type 0 where
   pub result : found .refusal ≡ refusalOf q
   pub count : found .length ≡ unlessRefused q (length (matchingDays q))
   pub visits : found .examined ≡ unlessRefused q (length (visitedDays q))
-  pub limit : sunArc q .given ≡ true → found .examined ≤ visitLimit q
+  pub limit : found .examined ≤ visitLimit q
 
 -- THE PROMISE of the search, with the list before and after
 pub record Searched (q : Query) (before : List ℕ) (found : Found) (after : List ℕ) : Type 0 where
   pub result : found .refusal ≡ resultOf q (capacity before)
   pub count : found .length ≡ unlessRefused q (length (matchingDays q))
   pub visits : found .examined ≡ unlessRefused q (length (visitedDays q))
-  pub limit : sunArc q .given ≡ true → found .examined ≤ visitLimit q
+  pub limit : found .examined ≤ visitLimit q
   pub list : after ≡ listAfter q before

@@ -3,27 +3,28 @@ use days::Day;
 use days::refusal;
 use longitudes::Body;
 use longitudes::CIRCLE;
-use query::Asked;
+use query::Arc;
+use query::BodyArcs;
 use query::Query;
+use query::Weekdays;
 ghost use mathlib.Core.Path.{_≡_};
 ghost use mathlib.Core.Bool.{true};
 ghost use Prim.Native.Nat.{_+_, _≤_};
-ghost use lib.Dec.{eqb};
 ghost use lib.ListN.{length, drop};
 ghost use Rattle.days.specs.Days.{lastDay, weekdayOn};
 ghost use Rattle.entries.specs.Entries.{capacity};
-ghost use Rattle.query.specs.Conditions.{meets};
+ghost use Rattle.query.specs.Conditions.{weekdayMet, arcsGiven, bodyArcsInRange};
 ghost use Rattle.query.specs.Query.{inSpan, refusalOf};
 ghost use Rattle.search.specs.Look.{notExamined, examinedOf};
 ghost use Rattle.search.specs.Days.{matchingDays};
 ghost use Rattle.search.specs.Search.{Measured, Searched};
-ghost use Rattle.search.specs.Passes.{examinedAnyDay, VisitAt, firstPlace, placeAfter, Scannable, withEntriesFrom, Tallied};
+ghost use Rattle.search.specs.Passes.{leadingArc, bothGiven, approachTo, Approached, examinedAnyDay, VisitAt, firstPlace, placeAfter, Scannable, withEntriesFrom, Tallied};
 
 // The most that the mean Sun advances in a day, in seconds of arc.
 const SUN_ADVANCE: u32 = 3549;
 
 // How many of the matching days are kept beside a list that may be too short for them.
-const KEPT: usize = 192;
+const KEPT: usize = 176;
 
 const KEPT_BYTES: usize = entries::ENTRY_BYTES * KEPT;
 
@@ -39,6 +40,12 @@ pub struct Found {
     pub refusal: u32,
     pub length: u32,
     pub examined: u32,
+}
+
+// Whether a longitude is in an arc, and else how many seconds ahead of it the arc begins.
+struct Approach {
+    inside: bool,
+    ahead: u32,
 }
 
 // Where a pass is: the day to examine, and how many were examined before it.
@@ -99,30 +106,89 @@ impl Found {
     }
 }
 
-// Whether a day has the weekday: seven divides its number less the weekday. The compiler makes one product of that, where the weekday itself takes a division.
-fn has_weekday(number: u32, weekday: u32) -> bool
+// The weekday of a day: the first three bits of the fraction of number / 7. The compiler makes a product and a shift of it, where the remainder takes a division.
+fn weekday_of(number: u32) -> u32
     requires { ⌜ number ≤ lastDay ⌝ }
-    ensures { λ r. ⌜ r ≡ eqb (weekdayOn number) weekday ⌝ }
+    ensures { λ r. ⌜ r ≡ weekdayOn number ⌝ }
 {
-    if 6 < weekday {
-        return false;
-    }
-    (number + 7 - weekday) % 7 == 0
+    let sevenths = number as u64 * 613566757 % 4294967296;
+    (sevenths / 536870912) as u32
 }
 
-fn weekday_met(asked: Asked, number: u32) -> bool
+fn weekday_met(asked: Weekdays, number: u32) -> bool
     requires { ⌜ number ≤ lastDay ⌝ }
-    ensures { λ r. ⌜ r ≡ meets asked (weekdayOn number) ⌝ }
+    ensures { λ r. ⌜ r ≡ weekdayMet asked (weekdayOn number) ⌝ }
 {
     if asked.given {
-        has_weekday(number, asked.value)
+        (asked.set >> weekday_of(number)) % 2 == 1
     } else {
         true
     }
 }
 
-// The look at a day, in the span or not: the only way to longitudes and conditions. It reckons them for the day given and for no other. The Sun's arc comes first, since it
-// decides the next day, then the weekday where it decides. (The calls of `others_met` are two, so that the compiler leaves it out of the scan's loop: most days do not come to it.)
+// Of the arcs the first that is given, or the second.
+fn leading(arcs: BodyArcs) -> Arc
+    ensures { λ r. ⌜ r ≡ leadingArc arcs ⌝ }
+{
+    if arcs.first.given {
+        arcs.first
+    } else {
+        arcs.second
+    }
+}
+
+fn both_given(arcs: BodyArcs) -> bool
+    ensures { λ r. ⌜ r ≡ bothGiven arcs ⌝ }
+{
+    if arcs.first.given {
+        arcs.second.given
+    } else {
+        false
+    }
+}
+
+// Where a longitude stands to an arc.
+fn to_arc(arc: Arc, longitude: u32) -> Approach
+    ensures { λ r. ⌜ r ≡ approachTo arc longitude ⌝ }
+{
+    let past = longitudes::difference(longitude, arc.start);
+    if past < arc.width {
+        return Approach {
+            inside: true,
+            ahead: 0,
+        };
+    }
+    Approach {
+        inside: false,
+        ahead: CIRCLE - past,
+    }
+}
+
+// Where a longitude stands to the arcs that are given: in one of them, or before the nearer start.
+fn nearer(arcs: BodyArcs, longitude: u32) -> Approach
+    requires { ⌜ (bodyArcsInRange arcs ≡ true) × (arcsGiven arcs ≡ true) ⌝ }
+    ensures { λ r. ⌜ Approached arcs longitude r ⌝ }
+{
+    let first = to_arc(leading(arcs), longitude);
+    if first.inside {
+        return first;
+    }
+    if !both_given(arcs) {
+        return first;
+    }
+    let second = to_arc(arcs.second, longitude);
+    if second.inside {
+        return second;
+    }
+    if second.ahead < first.ahead {
+        second
+    } else {
+        first
+    }
+}
+
+// The look at a day, in the span or not: the only way to longitudes and conditions. It reckons them for the day given and for no other. The Sun's arcs come first, since they
+// decide the next day, then the weekday where it decides. (The calls of `others_met` are two, so that the compiler leaves it out of the scan's loop: most days do not come to it.)
 fn examine_any_day(query: Query, day: u32) -> Examined
     requires { ⌜ refusalOf query ≡ 0 ⌝ }
     ensures { λ r. ⌜ r ≡ examinedAnyDay query day ⌝ }
@@ -132,10 +198,10 @@ fn examine_any_day(query: Query, day: u32) -> Examined
         return Examined::refused(found.refusal);
     }
     let pair = found.day;
-    let asked = query.weekday;
+    let asked = query.weekdays;
     let more = query::asks_more(query);
-    let arc = query.arcs[0];
-    if !arc.given {
+    let arcs = query.arcs[0];
+    if !arcs.given() {
         if !weekday_met(asked, day) {
             return Examined::accepted(false, day + 1);
         }
@@ -145,8 +211,8 @@ fn examine_any_day(query: Query, day: u32) -> Examined
         return Examined::accepted(query::others_met(query, pair), day + 1);
     }
     let sun = longitudes::mean_longitude(Body::Sun, pair);
-    let past = longitudes::difference(sun.seconds, arc.start);
-    if past < arc.width {
+    let found = nearer(arcs, sun.seconds);
+    if found.inside {
         if !weekday_met(asked, day) {
             return Examined::accepted(false, day + 1);
         }
@@ -155,8 +221,7 @@ fn examine_any_day(query: Query, day: u32) -> Examined
         }
         return Examined::accepted(query::others_met(query, pair), day + 1);
     }
-    let ahead = CIRCLE - past;
-    Examined::accepted(false, day + (ahead + (SUN_ADVANCE - 1)) / SUN_ADVANCE)
+    Examined::accepted(false, day + (found.ahead + (SUN_ADVANCE - 1)) / SUN_ADVANCE)
 }
 
 fn in_span(query: Query, day: u32) -> bool
@@ -273,36 +338,34 @@ pub fn measure(query: Query) -> Found
     Found::counted(refusal::NONE, tally)
 }
 
-// Writes the matching days to a list with an entry for each day of the span: whatever matches fits, and one pass counts and writes.
-fn fill(query: Query, list: &mut [u8]) -> Found
-    requires { ⌜ refusalOf query ≡ 0 ⌝ }
-    requires { ⌜ length (matchingDays query) ≤ capacity (now list) ⌝ }
-    ensures { λ f. ⌜ Searched query (now (list .entry)) f (now (list .exit)) ⌝ }
-{
-    let start = first_place(query);
-    let tally = scan(query, start, 0, query.last, list);
-    Found::counted(refusal::NONE, tally)
-}
-
 // The second pass, for the matching days behind those that the first one kept: it goes on from the place after the last of these, up to the last match. Each day is counted once, so the numbers
 // handed back are the first pass's.
 fn write_rest(query: Query, counted: Tally, list: &mut [u8]) -> Found
-    requires { ⌜ Scannable query (counted .resume) 192 (counted .latest) (capacity (now list)) ⌝ }
+    requires { ⌜ Scannable query (counted .resume) 176 (counted .latest) (capacity (now list)) ⌝ }
     ensures { λ f. ⌜ f ≡ record { refusal = 0; length = counted .length; examined = counted .examined } ⌝ }
-    ensures { λ _. ⌜ now (list .exit) ≡ withEntriesFrom (now (list .entry)) 192 (drop 192 (matchingDays query)) ⌝ }
+    ensures { λ _. ⌜ now (list .exit) ≡ withEntriesFrom (now (list .entry)) 176 (drop 176 (matchingDays query)) ⌝ }
 {
     let resume = counted.resume;
     scan(query, resume, KEPT as u32, counted.latest, list);
     Found::counted(refusal::NONE, counted)
 }
 
-// Writes the matching days to a list that may be too short for them. The first ones are kept beside it until it is known whether all fit.
-fn fill_if_enough(query: Query, list: &mut [u8]) -> Found
-    requires { ⌜ refusalOf query ≡ 0 ⌝ }
+// Writes the matching days to the list, earliest first, or leaves it as it was. Where the list has an entry for each day of the span, whatever matches fits, and one pass counts and writes; else the
+// first ones are kept beside it until it is known whether all fit. (This is one function, since each call that hands the query on has a copy of it on the stack.)
+pub fn search(query: Query, list: &mut [u8]) -> Found
     ensures { λ f. ⌜ Searched query (now (list .entry)) f (now (list .exit)) ⌝ }
 {
+    let refusal = query.refusal();
+    if refusal != refusal::NONE {
+        return Found::refused(refusal);
+    }
     let capacity = list.len() / entries::ENTRY_BYTES;
+    let days_less_one = (query.last - query.first) as usize;
     let start = first_place(query);
+    if days_less_one < capacity {
+        let tally = scan(query, start, 0, query.last, list);
+        return Found::counted(refusal::NONE, tally);
+    }
     let mut kept = [0u8; KEPT_BYTES];
     let tally = scan(query, start, 0, query.last, &mut kept);
     let needed = tally.length as usize;
@@ -316,20 +379,4 @@ fn fill_if_enough(query: Query, list: &mut [u8]) -> Found
     }
     bytes::copy(&kept, list);
     write_rest(query, tally, list)
-}
-
-// Writes the matching days to the list, earliest first, or leaves it as it was.
-pub fn search(query: Query, list: &mut [u8]) -> Found
-    ensures { λ f. ⌜ Searched query (now (list .entry)) f (now (list .exit)) ⌝ }
-{
-    let refusal = query.refusal();
-    if refusal != refusal::NONE {
-        return Found::refused(refusal);
-    }
-    let capacity = list.len() / entries::ENTRY_BYTES;
-    let days_less_one = (query.last - query.first) as usize;
-    if days_less_one < capacity {
-        return fill(query, list);
-    }
-    fill_if_enough(query, list)
 }

@@ -1,19 +1,19 @@
 -- A value that is read is accepted, or refused with 1, 2 or 3. Assumes nothing.
-use mathlib.Core.Bool.{Bool, true, false, cond, _&&_}
+use mathlib.Core.Bool.{Bool, true, false, cond}
 use mathlib.Core.List.{List}
-use Prim.Native.Nat.{ℕ, _≤_}
+use Prim.Native.Nat.{ℕ, zero, suc, _≤_}
 use native.Mathlib.Omega.{arith}
-use lib.Dec.{eqb, ltb}
+use lib.Dec.{eqb}
 use lib.ListN.{length}
 use Rattle.civil.specs.declared.Date.{Date}
 use Rattle.civil.proofs.Laws.{Answered, no-such, day, outside, answered}
 use Rattle.days.specs.declared.NumberAnswer.{NumberAnswer}
 use Rattle.days.specs.Refusals.{badInput}
+use Rattle.days.specs.Weekdays.{inSet}
 use Rattle.text.specs.Decimal.{isNumber, numberRead}
-use Rattle.words.specs.Names.{weekdayNames}
-use Rattle.words.specs.Words.{dash, colon, placeIn}
+use Rattle.words.specs.Words.{dash, firstWord, afterWord}
 use Rattle.values.specs.declared.Three.{Three}
-use Rattle.values.specs.Values.{isRead, threeRead, sexagesimalRead, dateRead, numberOr, angleRead, dayRead, weekdayRead, noneRead}
+use Rattle.values.specs.Values.{isRead, threeRead, dateRead, numberOr, dayRead, weekdayRead, withWeekday, setRead, weekdaysRead, noneRead}
 
 -- what holds of both cases holds of the one that a test picks
 pub either : {A : Type 0} (P : A → Type 0) (t : Bool) {x y : A} → P x → P y → P (cond t x y)
@@ -26,11 +26,6 @@ OfReading a = a .refusal ≤ badInput
 pub number-refusal : (w : List ℕ) → OfReading (numberRead w)
 unfolding numberRead
 number-refusal w = either OfReading (isNumber w) (omega arith) (omega arith)
-
-sexagesimal-refusal : (t : Three) → OfReading (sexagesimalRead t)
-unfolding sexagesimalRead
-sexagesimal-refusal t =
-    either OfReading (t .read && (ltb (t .first) 1000 && (ltb (t .second) 60 && ltb (t .third) 60))) (omega arith) (omega arith)
 
 answer-refusal : (x : Date) (a : NumberAnswer) → Answered x a → OfReading a
 answer-refusal x _ (no-such k) = omega arith
@@ -49,13 +44,21 @@ pub day-refusal : (w : List ℕ) → OfReading (dayRead w)
 unfolding dayRead
 day-refusal w = number-or-refusal w _ (date-refusal (threeRead dash w))
 
-pub angle-refusal : (w : List ℕ) → OfReading (angleRead w)
-unfolding angleRead
-angle-refusal w = number-or-refusal w _ (sexagesimal-refusal (threeRead colon w))
+with-weekday-refusal : (set : ℕ) (w : NumberAnswer) → OfReading (withWeekday set w)
+unfolding withWeekday
+with-weekday-refusal set w = either OfReading (isRead w) (either OfReading (inSet set (w .number)) (omega arith) (omega arith)) (omega arith)
 
-pub weekday-refusal : (w : List ℕ) → OfReading (weekdayRead w)
-unfolding weekdayRead
-weekday-refusal w = either OfReading (ltb (placeIn weekdayNames w) 7) (omega arith) (number-refusal w)
+set-refusal : (set : ℕ) → OfReading (setRead set)
+unfolding setRead
+set-refusal set = either OfReading (eqb set 0) (omega arith) (omega arith)
+
+pub weekdays-refusal : (n set : ℕ) (t : List ℕ) → OfReading (weekdaysRead n set t)
+unfolding weekdaysRead
+weekdays-refusal zero set t = either OfReading (eqb (length (firstWord t)) 0) (set-refusal set) (omega arith)
+weekdays-refusal (suc n) set t =
+    let more = withWeekday set (weekdayRead (firstWord t)) in
+    either OfReading (eqb (length (firstWord t)) 0) (set-refusal set)
+    (either OfReading (isRead more) (weekdays-refusal n (more .number) (afterWord t)) (with-weekday-refusal set (weekdayRead (firstWord t))))
 
 pub none-refusal : (w : List ℕ) → OfReading (noneRead w)
 unfolding noneRead

@@ -1,17 +1,18 @@
--- What the values of a line mean: each is a word, read as a number, or the refusal of a bad line.
+-- What the values of a line mean: each is a word, read as a number, or the refusal of a bad line; and the weekdays of a line, as a set.
 -- Assumes nothing.
 use mathlib.Core.Bool.{Bool, true, false, cond, _&&_}
 use mathlib.Core.List.{List}
-use Prim.Native.Nat.{ℕ, _+_, _*_}
+use Prim.Native.Nat.{ℕ, zero, suc, _+_, _*_}
 use lib.Dec.{eqb, ltb}
 use lib.ListN.{length}
 use Rattle.civil.specs.Answers.{dayOfDate}
 use Rattle.days.specs.declared.NumberAnswer.{NumberAnswer}
 use Rattle.days.specs.Refusals.{accepted, badInput}
 use Rattle.days.specs.Days.{theNumber, noNumber}
+use Rattle.days.specs.Weekdays.{bitOf, inSet}
 use Rattle.text.specs.Decimal.{numberRead}
 use Rattle.values.specs.declared.Three.{Three}
-use Rattle.words.specs.Words.{dash, colon, upTo, afterFirst, placeIn}
+use Rattle.words.specs.Words.{dash, colon, upTo, afterFirst, firstWord, afterWord, placeIn}
 use Rattle.words.specs.Names.{weekdayNames}
 
 -- the word is a number
@@ -56,6 +57,22 @@ dayRead w = numberOr w (dateRead (threeRead dash w))
 -- a weekday: its name, or its number
 unfoldable pub weekdayRead : List ℕ → NumberAnswer
 weekdayRead w = cond (ltb (placeIn weekdayNames w) 7) (theNumber (placeIn weekdayNames w)) (numberRead w)
+
+-- a set with a weekday more; one that is in it already, or is not read, makes the line malformed
+unfoldable pub withWeekday : ℕ → NumberAnswer → NumberAnswer
+withWeekday set w =
+    cond (isRead w) (cond (inSet set (w .number)) (noNumber badInput) (theNumber (set + bitOf (w .number)))) (noNumber badInput)
+
+-- a set; there is none without a weekday
+unfoldable pub setRead : ℕ → NumberAnswer
+setRead set = cond (eqb set 0) (noNumber badInput) (theNumber set)
+
+-- a set with the weekdays of a text's words, in any order: at most n words, and each weekday once
+unfoldable pub weekdaysRead : ℕ → ℕ → List ℕ → NumberAnswer
+weekdaysRead zero set t = cond (eqb (length (firstWord t)) 0) (setRead set) (noNumber badInput)
+weekdaysRead (suc n) set t =
+    cond (eqb (length (firstWord t)) 0) (setRead set)
+    (let more = withWeekday set (weekdayRead (firstWord t)) in cond (isRead more) (weekdaysRead n (more .number) (afterWord t)) more)
 
 -- no word at all
 unfoldable pub noneRead : List ℕ → NumberAnswer

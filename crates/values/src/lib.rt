@@ -1,13 +1,16 @@
-// The values of a line: each is a word, read as a number.
+// The values of a line: each is a word, read as a number, and the weekdays of a line as a set.
 use civil::Date;
 use days::NumberAnswer;
 use days::refusal;
 use text::read_decimal;
 use words::after;
+use words::after_word;
+use words::first_word;
 use words::up_to;
 use words::weekday_place;
 ghost use mathlib.Core.Path.{_≡_};
-ghost use Rattle.values.specs.Values.{threeRead, sexagesimalRead, angleRead, dateRead, dayRead, weekdayRead, noneRead};
+ghost use Prim.Native.Nat.{_≤_};
+ghost use Rattle.values.specs.Values.{threeRead, sexagesimalRead, angleRead, dateRead, dayRead, weekdayRead, withWeekday, setRead, weekdaysRead, noneRead};
 
 // Three numbers with a separator between them.
 struct Three {
@@ -100,7 +103,7 @@ pub fn day(word: &[u8]) -> NumberAnswer
     date(three_of(word, b'-'))
 }
 
-pub fn weekday(word: &[u8]) -> NumberAnswer
+fn weekday(word: &[u8]) -> NumberAnswer
     ensures { λ r. ⌜ r ≡ weekdayRead (now (word .entry)) ⌝ }
 {
     let place = weekday_place(word);
@@ -108,6 +111,57 @@ pub fn weekday(word: &[u8]) -> NumberAnswer
         return NumberAnswer::accepted(place as u32);
     }
     read_decimal(word)
+}
+
+// The set with a weekday more, which must not be in it.
+fn with_weekday(set: u32, weekday: NumberAnswer) -> NumberAnswer
+    requires { ⌜ set ≤ 768 ⌝ }
+    ensures { λ r. ⌜ r ≡ withWeekday set weekday ⌝ }
+{
+    if weekday.refusal != refusal::NONE {
+        return NumberAnswer::refused(refusal::BAD_INPUT);
+    }
+    if days::set_has(set, weekday.number) {
+        return NumberAnswer::refused(refusal::BAD_INPUT);
+    }
+    let bit = days::weekday_bit(weekday.number);
+    NumberAnswer::accepted(set + bit)
+}
+
+fn no_empty_set(set: u32) -> NumberAnswer
+    ensures { λ r. ⌜ r ≡ setRead set ⌝ }
+{
+    if set == 0 {
+        NumberAnswer::refused(refusal::BAD_INPUT)
+    } else {
+        NumberAnswer::accepted(set)
+    }
+}
+
+// The weekdays of a line, one to seven words, as a set.
+pub fn weekdays(text: &[u8]) -> NumberAnswer
+    ensures { λ r. ⌜ r ≡ weekdaysRead 7 0 (now (text .entry)) ⌝ }
+{
+    let mut set = 0;
+    let mut left: u32 = 7;
+    let mut rest = text;
+    loop {
+        let word = first_word(rest);
+        if word.len() == 0 {
+            return no_empty_set(set);
+        }
+        if left == 0 {
+            return NumberAnswer::refused(refusal::BAD_INPUT);
+        }
+        let found = with_weekday(set, weekday(word));
+        if found.refusal != refusal::NONE {
+            return found;
+        }
+        set = found.number;
+        left -= 1;
+        let others = after_word(rest);
+        rest = others;
+    }
 }
 
 // The place of a value that the line must not have.

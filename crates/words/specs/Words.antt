@@ -2,7 +2,7 @@
 -- Assumes nothing.
 use mathlib.Core.Bool.{Bool, true, false, cond, not, _&&_, _||_}
 use mathlib.Core.List.{List, [], _∷_}
-use Prim.Native.Nat.{ℕ, suc}
+use Prim.Native.Nat.{ℕ, zero, suc}
 use Prim.Native.Char.{code}
 use lib.Dec.{eqb}
 use lib.ListN.{getD, take, drop}
@@ -48,6 +48,11 @@ firstWord bs = upTo space (trimmed bs)
 
 abbrev pub afterWord : List ℕ → List ℕ
 afterWord bs = afterFirst space (trimmed bs)
+
+-- what follows the first n words
+unfoldable pub afterWords : ℕ → List ℕ → List ℕ
+afterWords zero bs = bs
+afterWords (suc n) bs = afterWords n (afterWord bs)
 
 -- a byte put in front of the first piece
 unfoldable pub inFront : ℕ → List (List ℕ) → List (List ℕ)

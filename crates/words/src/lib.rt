@@ -2,7 +2,7 @@
 ghost use mathlib.Core.Path.{_≡_};
 ghost use Rattle.text.specs.Lines.{space};
 ghost use Rattle.words.specs.Names.{weekdayNames, bodyNames};
-ghost use Rattle.words.specs.Words.{isSeparator, inRun, runLength, upTo, afterFirst, trimmed, firstWord, afterWord, pieces, placeIn, nameAt};
+ghost use Rattle.words.specs.Words.{isSeparator, inRun, runLength, upTo, afterFirst, trimmed, firstWord, afterWord, afterWords, pieces, placeIn, nameAt};
 
 pub const WEEKDAYS: [u8; 56] = *b"monday tuesday wednesday thursday friday saturday sunday";
 
@@ -87,6 +87,20 @@ pub fn after_word(s: &[u8]) -> &[u8]
     ensures { λ r. ⌜ now r ≡ afterWord (now (s .entry)) ⌝ }
 {
     after(trim(s), b' ')
+}
+
+// What follows the first words, so many of them.
+pub fn after_words(s: &[u8], count: usize) -> &[u8]
+    ensures { λ r. ⌜ now r ≡ afterWords count (now (s .entry)) ⌝ }
+{
+    let mut more = count;
+    let mut rest = s;
+    while 0 < more {
+        let others = after_word(rest);
+        rest = others;
+        more -= 1;
+    }
+    rest
 }
 
 // The place of a word among names with a space between them; of a word that is none of them, how many names there are.

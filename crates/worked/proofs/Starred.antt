@@ -13,9 +13,9 @@ use Rattle.longitudes.specs.Answers.{longitudesOf}
 use Rattle.panchanga.specs.TrueLongitudes.{bhuja, equation, signed, corrected, trueLongitude, isEdition, trueMoon}
 use Rattle.panchanga.specs.Elements.{karanaAfter}
 use Rattle.panchanga.specs.OnDays.{trueSunAt, trueMoonAt, tithiAt, nakshatraAt, yogaAt, karanaAt, panchangaOf}
-use Rattle.query.specs.Conditions.{meets, inArc, arcsMet, elementsMet, askedInRange, arcInRange, arcsInRange, conditionsInRange}
+use Rattle.query.specs.Conditions.{meets, weekdayMet, givenArcs, inArc, inSome, inArcs, nearestStart, arcsMet, elementsMet, askedInRange, weekdaysInRange, arcInRange, bodyArcsInRange, arcsInRange, conditionsInRange}
 use Rattle.query.specs.Query.{conditionsMet, refusalOf}
-use Rattle.search.specs.Look.{sunInArc, nextDay}
+use Rattle.search.specs.Look.{sunInArcs, nextDay}
 use Rattle.search.specs.Days.{filtered, daysFrom, matchingDays, visitedFrom, visitedDays}
 use Rattle.search.specs.Search.{resultOf}
 use Rattle.worked.specs.Cases.{Case, starred}
@@ -27,5 +27,5 @@ starred-hold =
     (unfold inRange dayOf floorOver reduced leap monthDays lost dateExists serialOf counted lunarDay lunarDayWith fieldsInRange yearInRange
     extraMonths elapsedExtraMonths reckonedDay havingWeekday integerDay answerFrom dayOn differenceOf table meanLongitude longitudeAt longitudesAt
     longitudesOf bhuja equation signed corrected trueLongitude isEdition trueMoon karanaAfter trueSunAt trueMoonAt tithiAt nakshatraAt yogaAt karanaAt
-    panchangaOf meets inArc arcsMet elementsMet askedInRange arcInRange arcsInRange conditionsInRange conditionsMet sunInArc nextDay
+    panchangaOf meets weekdayMet givenArcs inArc inSome inArcs nearestStart arcsMet elementsMet askedInRange weekdaysInRange arcInRange bodyArcsInRange arcsInRange conditionsInRange conditionsMet sunInArcs nextDay
     refusalOf filtered daysFrom matchingDays visitedFrom visitedDays resultOf in refl)

@@ -14,7 +14,7 @@ use Rattle.panchanga.specs.declared.Panchanga.{Panchanga}
 use Rattle.panchanga.specs.TrueLongitudes.{firstEdition}
 use Rattle.panchanga.specs.OnDays.{panchangaOf}
 use Rattle.query.specs.declared.Query.{Query}
-use Rattle.query.specs.Conditions.{notAsked, noArc}
+use Rattle.query.specs.Conditions.{notAsked, noWeekdays, onlyArc, noArcs}
 use Rattle.search.specs.Look.{sunOn}
 use Rattle.search.specs.Days.{matchingDays, visitedDays}
 use Rattle.search.specs.Search.{resultOf, unlessRefused}
@@ -55,11 +55,11 @@ twoYears =
       first = 0;
       last = 729;
       edition = firstEdition;
-      weekday = notAsked;
+      weekdays = noWeekdays;
       tithi = notAsked;
       nakshatra = notAsked;
       yoga = notAsked;
-      arcs = record { given = true; start = 0; width = 3600 } ∷ replicate 8 noArc;
+      arcs = onlyArc (record { given = true; start = 0; width = 3600 }) ∷ replicate 8 noArcs;
     }
 
 -- a search with room for so many days: the result, the number of matching days, the number of days examined

@@ -1,51 +1,51 @@
--- `arcs` meets its contract: arc by arc.
+-- `arcs` meets its contract: body by body.
 use borrow.Author.Needs.{needs}
 use Rattle.bridge.specs.Bytes.{arcsFrom}
 use Rattle.bridge.proofs.arcs.Statement.{statement}
 use Rattle.bridge.proofs.arcs.Tie as tie
 
-arc-requires : tie.Need-arc-requires
-arc-requires c κs = search needs
+body-arcs-requires : tie.Need-body-arcs-requires
+body-arcs-requires c κs = search needs
 
-arc-requires-2 : tie.Need-arc-requires-2
-arc-requires-2 c κs = search needs
+body-arcs-requires-2 : tie.Need-body-arcs-requires-2
+body-arcs-requires-2 c κs = search needs
 
-arc-requires-3 : tie.Need-arc-requires-3
-arc-requires-3 c κs = search needs
+body-arcs-requires-3 : tie.Need-body-arcs-requires-3
+body-arcs-requires-3 c κs = search needs
 
-arc-requires-4 : tie.Need-arc-requires-4
-arc-requires-4 c κs = search needs
+body-arcs-requires-4 : tie.Need-body-arcs-requires-4
+body-arcs-requires-4 c κs = search needs
 
-arc-requires-5 : tie.Need-arc-requires-5
-arc-requires-5 c κs = search needs
+body-arcs-requires-5 : tie.Need-body-arcs-requires-5
+body-arcs-requires-5 c κs = search needs
 
-arc-requires-6 : tie.Need-arc-requires-6
-arc-requires-6 c κs = search needs
+body-arcs-requires-6 : tie.Need-body-arcs-requires-6
+body-arcs-requires-6 c κs = search needs
 
-arc-requires-7 : tie.Need-arc-requires-7
-arc-requires-7 c κs = search needs
+body-arcs-requires-7 : tie.Need-body-arcs-requires-7
+body-arcs-requires-7 c κs = search needs
 
-arc-requires-8 : tie.Need-arc-requires-8
-arc-requires-8 c κs = search needs
+body-arcs-requires-8 : tie.Need-body-arcs-requires-8
+body-arcs-requires-8 c κs = search needs
 
-arc-requires-9 : tie.Need-arc-requires-9
-arc-requires-9 c κs = search needs
+body-arcs-requires-9 : tie.Need-body-arcs-requires-9
+body-arcs-requires-9 c κs = search needs
 
 returns : tie.Need-returns
 unfolding arcsFrom
-returns c = cc
+returns c = rw (c .before .before .before .before .before .before .before .before .body-arcs .ensures, c .before .before .before .before .before .before .before .body-arcs2 .ensures, c .before .before .before .before .before .before .body-arcs3 .ensures, c .before .before .before .before .before .body-arcs4 .ensures, c .before .before .before .before .body-arcs5 .ensures, c .before .before .before .body-arcs6 .ensures, c .before .before .body-arcs7 .ensures, c .before .body-arcs8 .ensures, c .body-arcs9 .ensures)
 
 pub arcs-spec : {M : Type 1} → statement M
 arcs-spec =
     tie.close
     (tie.spec
-    arc-requires
-    arc-requires-2
-    arc-requires-3
-    arc-requires-4
-    arc-requires-5
-    arc-requires-6
-    arc-requires-7
-    arc-requires-8
-    arc-requires-9
+    body-arcs-requires
+    body-arcs-requires-2
+    body-arcs-requires-3
+    body-arcs-requires-4
+    body-arcs-requires-5
+    body-arcs-requires-6
+    body-arcs-requires-7
+    body-arcs-requires-8
+    body-arcs-requires-9
     returns)

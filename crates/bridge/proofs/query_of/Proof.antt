@@ -10,6 +10,9 @@ number-requires c κs = search needs
 number-requires-2 : tie.Need-number-requires-2
 number-requires-2 c κs = search needs
 
+weekdays-requires : tie.Need-weekdays-requires
+weekdays-requires c κs = search needs
+
 asked-requires : tie.Need-asked-requires
 asked-requires c κs = search needs
 
@@ -18,9 +21,6 @@ asked-requires-2 c κs = search needs
 
 asked-requires-3 : tie.Need-asked-requires-3
 asked-requires-3 c κs = search needs
-
-asked-requires-4 : tie.Need-asked-requires-4
-asked-requires-4 c κs = search needs
 
 arcs-requires : tie.Need-arcs-requires
 arcs-requires c κs = search needs
@@ -38,10 +38,10 @@ query-of-spec =
     (tie.spec
     number-requires
     number-requires-2
+    weekdays-requires
     asked-requires
     asked-requires-2
     asked-requires-3
-    asked-requires-4
     arcs-requires
     number-requires-3
     returns)

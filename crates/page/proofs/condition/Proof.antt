@@ -7,19 +7,16 @@ use borrow.Author.Needs.{needs}
 use Rattle.page.proofs.condition.Statement.{statement}
 use Rattle.page.proofs.condition.Tie as tie
 
-first-refusal-requires : tie.Need-first-refusal-requires
-first-refusal-requires c κs = search needs
-
 malformed-requires : tie.Need-malformed-requires
 malformed-requires c κs = search needs
 
 returns : tie.Need-returns
 unfolding conditionRead
-returns c = c .malformed .ensures ∙ rw (← c .before .before .first-refusal .ensures, eq-eqb _ _ (c .before .if1 .taken))
+returns c = c .malformed .ensures ∙ rw (eq-eqb _ _ (c .before .if1 .taken))
 
 returns-2 : tie.Need-returns-2
 unfolding conditionRead
-returns-2 c = rw (← c .before .before .first-refusal .ensures, ne-eqb _ _ (c .before .if1 .left), ne-eqb _ _ (c .if2 .taken))
+returns-2 c = rw (ne-eqb _ _ (c .before .before .if1 .left), ne-eqb _ _ (c .if2 .taken))
 
 only-span-requires : tie.Need-only-span-requires
 only-span-requires c κs = search needs
@@ -32,13 +29,12 @@ refusal-requires c κs = search needs
 
 returns-3 : tie.Need-returns-3
 unfolding conditionRead
-returns-3 c = rw (← c .before .before .before .before .before .first-refusal .ensures, ne-eqb _ _ (c .before .before .before .before .if1 .left), eq-eqb _ _ (c .before .before .before .if2 .left), c .refusal .ensures, c .before .with-condition .ensures, c .before .before .only-span .ensures)
+returns-3 c = rw (ne-eqb _ _ (c .before .before .before .before .before .if1 .left), eq-eqb _ _ (c .before .before .before .if2 .left), c .refusal .ensures, c .before .with-condition .ensures, c .before .before .only-span .ensures)
 
 pub condition-spec : {M : Type 1} → statement M
 condition-spec =
     tie.close
     (tie.spec
-    first-refusal-requires
     malformed-requires
     returns
     returns-2

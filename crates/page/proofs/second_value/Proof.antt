@@ -1,6 +1,6 @@
--- `second_value` meets its contract, keyword by keyword. Assumes nothing.
+-- `second_value` meets its contract: a day of a span, or nothing. Assumes nothing.
 use mathlib.Core.Path.{_∙_}
-use borrow.Author.Tests.{eq-eqb, ne-eqb, lt-ltb, le-ltb}
+use borrow.Author.Tests.{eq-eqb, ne-eqb}
 use Rattle.page.specs.Page.{secondValue}
 use borrow.Author.Needs.{needs}
 use Rattle.page.proofs.second_value.Statement.{statement}
@@ -18,15 +18,7 @@ nothing-requires c κs = search needs
 
 returns-2 : tie.Need-returns-2
 unfolding secondValue
-returns-2 c = c .nothing .ensures ∙ rw (ne-eqb _ _ (c .before .before .if1 .left), lt-ltb _ _ (c .before .if2 .taken))
-
-angle-requires : tie.Need-angle-requires
-angle-requires c κs = search needs
-
-returns-3 : tie.Need-returns-3
-unfolding secondValue
-returns-3 c = c .angle .ensures ∙ rw (ne-eqb _ _ (c .before .before .if1 .left), le-ltb _ _ (c .before .if2 .left))
+returns-2 c = c .nothing .ensures ∙ rw (ne-eqb _ _ (c .before .if1 .left))
 
 pub second-value-spec : {M : Type 1} → statement M
-second-value-spec =
-    tie.close (tie.spec day-requires returns nothing-requires returns-2 angle-requires returns-3)
+second-value-spec = tie.close (tie.spec day-requires returns nothing-requires returns-2)

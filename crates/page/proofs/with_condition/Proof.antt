@@ -13,7 +13,7 @@ use Rattle.page.proofs.with_condition.Tie as tie
 body-small : (k : ℕ) → k < 15 → k - 6 < 9
 body-small k h = omega arith
 
-body-fits : (k : ℕ) → k < 15 → Fits w64 ((k - 6) * 12)
+body-fits : (k : ℕ) → k < 15 → Fits w64 ((k - 6) * 24)
 body-fits k h = omega arith
 
 returns : tie.Need-returns
@@ -44,14 +44,14 @@ sub-body : tie.Need-sub-body
 sub-body c = search needs
 
 mul-arcs : tie.Need-mul-arcs
-mul-arcs c = body-fits _ (c .before .before .before .before .before .before .before .pre)
+mul-arcs c = body-fits _ (c .before .before .before .before .before .before .before .before .pre)
 
 array-set-from-arcs : tie.Need-array-set-from-arcs
-array-set-from-arcs c = body-small _ (c .before .before .before .before .before .before .before .pre)
+array-set-from-arcs c = body-small _ (c .before .before .before .before .before .before .before .before .pre)
 
 returns-7 : tie.Need-returns-7
 unfolding withCondition
-returns-7 c = rw (ne-eqb _ _ (c .before .before .before .before .before .before .if1 .left), ne-eqb _ _ (c .before .before .before .before .before .if2 .left), ne-eqb _ _ (c .before .before .before .before .if3 .left), ne-eqb _ _ (c .before .before .before .if4 .left), ne-eqb _ _ (c .before .before .if5 .left), ne-eqb _ _ (c .before .if6 .left), le-leb 6 (c .before .before .before .before .before .before .before .args .keyword) (omega arith))
+returns-7 c = rw (ne-eqb _ _ (c .before .before .before .before .before .before .before .if1 .left), ne-eqb _ _ (c .before .before .before .before .before .before .if2 .left), ne-eqb _ _ (c .before .before .before .before .before .if3 .left), ne-eqb _ _ (c .before .before .before .before .if4 .left), ne-eqb _ _ (c .before .before .before .if5 .left), ne-eqb _ _ (c .before .before .if6 .left), le-leb 6 (c .before .before .before .before .before .before .before .before .args .keyword) (omega arith))
 
 pub with-condition-spec : {M : Type 1} → statement M
 with-condition-spec =

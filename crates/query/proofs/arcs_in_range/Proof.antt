@@ -1,4 +1,4 @@
--- `arcs_in_range` meets its contract. The loop's invariant: each arc passed is in range. The measure is the arcs left.
+-- `arcs_in_range` meets its contract. The loop's invariant: the arcs of each body passed are in range. The measure is the bodies left.
 use mathlib.Core.Path.{_≡_, sym, _∙_}
 use mathlib.Core.Bool.{true}
 use Prim.Native.Nat.{ℕ, _≤_, _<_, _-_}
@@ -6,13 +6,13 @@ use native.Mathlib.Omega.{arith}
 use borrow.Author.Count.{below-none, below-more}
 use borrow.Author.Needs.{needs}
 use borrow.Author.Tests.{not-true, not-false}
-use Rattle.query.specs.Conditions.{arcAt, arcInRange}
+use Rattle.query.specs.Conditions.{arcsAt, bodyArcsInRange}
 use Rattle.query.proofs.Conditions.{arcs-true, arcs-false}
 use Rattle.query.proofs.arcs_in_range.Statement.{statement}
 use Rattle.query.proofs.arcs_in_range.Tie as tie
 
 abbrev Inv-loop : tie.InvT-loop
-Inv-loop arcs body₀ body = (body ≤ 9) × ((k : ℕ) → k < body → arcInRange (arcAt arcs k) ≡ true)
+Inv-loop arcs body₀ body = (body ≤ 9) × ((k : ℕ) → k < body → bodyArcsInRange (arcsAt arcs k) ≡ true)
 
 abbrev μ-loop : tie.MeasureT-loop
 μ-loop arcs body₀ body = 9 - body
@@ -20,11 +20,11 @@ abbrev μ-loop : tie.MeasureT-loop
 loop-holds : tie.Need-loop-holds Inv-loop μ-loop
 loop-holds c = (omega arith, below-none _)
 
-mul-arc : tie.Need-mul-arc Inv-loop μ-loop
-mul-arc c = search needs
+mul-of-body : tie.Need-mul-of-body Inv-loop μ-loop
+mul-of-body c = search needs
 
-array-copy-out-arc : tie.Need-array-copy-out-arc Inv-loop μ-loop
-array-copy-out-arc c = search needs
+array-copy-out-of-body : tie.Need-array-copy-out-of-body Inv-loop μ-loop
+array-copy-out-of-body c = search needs
 
 in-range-requires : tie.Need-in-range-requires Inv-loop μ-loop
 in-range-requires c κs = search needs
@@ -47,4 +47,4 @@ returns-2 c = sym (arcs-true _ (λ k h. c .before .loop .inv .1 k (omega arith))
 pub arcs-in-range-spec : {M : Type 1} → statement M
 arcs-in-range-spec =
     tie.close
-    (tie.spec Inv-loop μ-loop loop-holds mul-arc array-copy-out-arc in-range-requires returns add-body loop-less loop-again returns-2)
+    (tie.spec Inv-loop μ-loop loop-holds mul-of-body array-copy-out-of-body in-range-requires returns add-body loop-less loop-again returns-2)

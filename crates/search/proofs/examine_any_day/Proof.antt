@@ -1,17 +1,19 @@
 -- `examine_any_day` meets its contract: no such day; the Sun outside its arc; inside it, decided by the weekday, by nothing more being asked, or by what more is asked.
 use borrow.Author.Needs.{needs}
 use borrow.Author.Tests.{not-true, not-false}
-use mathlib.Core.Path.{_≡_, ap, _∙_}
+use mathlib.Core.Path.{_≡_, ap, sym, subst, _∙_}
+use mathlib.Core.Bool.{true}
 use native.Mathlib.Omega.{arith}
-use Prim.Native.Nat.{ℕ}
+use Prim.Native.Nat.{ℕ, _<_}
 use Rattle.days.proofs.Laws.{ThatDay, that-day, no-such-day, past-last}
-use Rattle.longitudes.specs.Longitudes.{differenceOf, longitudeAt}
-use Rattle.query.specs.Query.{sunArc}
+use Rattle.longitudes.specs.Longitudes.{circle, longitudeAt}
+use Rattle.query.specs.Query.{sunArcs}
 use Rattle.query.proofs.Accepted.{accepted-by}
 use Rattle.longitudes.proofs.Answers.{given-seconds}
-use Rattle.longitudes.proofs.Subtraction.{is-small}
-use Rattle.search.proofs.Circle.{past}
-use Rattle.search.proofs.Arc.{no-arc, past-in}
+use Rattle.search.specs.Look.{sunOn}
+use Rattle.query.specs.Conditions.{arcsGiven}
+use Rattle.search.specs.Passes.{Approached}
+use Rattle.search.proofs.Arc.{given-decides, no-arcs, nearest-low}
 use Rattle.search.proofs.Look.{Inside, no-day, outside, by-weekday, by-no-more, by-more}
 use Rattle.search.proofs.examine_any_day.Statement.{statement}
 use Rattle.search.proofs.examine_any_day.Tie as tie
@@ -33,11 +35,14 @@ day c = that-day _ _ (c .before .before .from-number .ensures) (c .if1 .left)
 asks-more-requires : tie.Need-asks-more-requires
 asks-more-requires c κs = search needs
 
-element-copy-out-arc : tie.Need-element-copy-out-arc
-element-copy-out-arc c = search needs
+element-copy-out-arcs : tie.Need-element-copy-out-arcs
+element-copy-out-arcs c = search needs
+
+given-requires : tie.Need-given-requires
+given-requires c κs = search needs
 
 inside : (c : tie.Then2) → Inside (c .before .before .before .before .before .before .before .before .before .args .t1) (c .before .before .before .before .before .before .before .before .before .args .day) (c .before .before .before .before .before .before .before .before .from-number .result .day)
-inside c = let k = day (c .before .before .before .before .before .before) in record { edition = accepted-by _ (c .before .before .before .before .before .before .before .before .before .pre) .edition; low = k .number; pair = k .pair; sun = no-arc _ _ (not-true _ (c .if2 .taken)) }
+inside c = let k = day (c .before .before .before .before .before .before) in record { edition = accepted-by _ (c .before .before .before .before .before .before .before .before .before .pre) .edition; low = k .number; pair = k .pair; sun = no-arcs _ _ (sym (c .before .given .ensures) ∙ not-true _ (c .if2 .taken)) }
 
 weekday-met-requires : tie.Need-weekday-met-requires
 weekday-met-requires c κs = inside c .low
@@ -75,19 +80,23 @@ returns-4 c = c .accepted3 .ensures ∙ by-more _ _ _ (inside (c .before .before
 mean-longitude-requires : tie.Need-mean-longitude-requires
 mean-longitude-requires c κs = search needs
 
-difference-requires : tie.Need-difference-requires
-difference-requires c κs = search needs
+some : (c : tie.Else2) → arcsGiven (sunArcs (c .before .before .before .before .before .before .before .before .before .args .t1)) ≡ true
+some c = sym (c .before .given .ensures) ∙ not-false _ (c .if2 .left)
 
-distance : (c : tie.After-difference) → c .difference .result ≡ past (sunArc (c .before .before .before .before .before .before .before .before .before .before .before .args .t1) .start) (c .before .before .before .before .before .before .before .before .before .before .before .args .day)
-distance c =
+nearer-requires : tie.Need-nearer-requires
+nearer-requires c κs = (accepted-by _ (c .before .before .before .before .before .before .before .before .before .before .pre) .sun, some (c .before))
+
+found : (c : tie.After-nearer) → Approached (sunArcs (c .before .before .before .before .before .before .before .before .before .before .before .args .t1)) (sunOn (c .before .before .before .before .before .before .before .before .before .before .before .args .day)) (c .nearer .result)
+found c =
     let k = day (c .before .before .before .before .before .before .before .before) in
-    c .difference .ensures
-    ∙ ap (λ (x : ℕ). differenceOf x (sunArc (c .before .before .before .before .before .before .before .before .before .before .before .args .t1) .start)) (given-seconds _ _ (c .before .mean-longitude .ensures) (k .range) ∙ ap (longitudeAt 0) (k .pair))
+    subst (λ (x : ℕ). Approached (sunArcs (c .before .before .before .before .before .before .before .before .before .before .before .args .t1)) x (c .nearer .result))
+    (given-seconds _ _ (c .before .mean-longitude .ensures) (k .range) ∙ ap (longitudeAt 0) (k .pair))
+    (c .nearer .ensures)
 
-inside-2 : (c : tie.Then5) → Inside (c .before .before .before .before .before .before .before .before .before .before .before .before .before .args .t1) (c .before .before .before .before .before .before .before .before .before .before .before .before .before .args .day) (c .before .before .before .before .before .before .before .before .before .before .before .before .from-number .result .day)
+inside-2 : (c : tie.Then5) → Inside (c .before .before .before .before .before .before .before .before .before .before .before .before .args .t1) (c .before .before .before .before .before .before .before .before .before .before .before .before .args .day) (c .before .before .before .before .before .before .before .before .before .before .before .from-number .result .day)
 inside-2 c =
-    let k = day (c .before .before .before .before .before .before .before .before .before .before) in
-    record { edition = accepted-by _ (c .before .before .before .before .before .before .before .before .before .before .before .before .before .pre) .edition; low = k .number; pair = k .pair; sun = past-in _ _ (not-false _ (c .before .before .before .before .if2 .left)) (rw (distance (c .before .before)) at (c .if5 .taken)) }
+    let k = day (c .before .before .before .before .before .before .before .before .before) in
+    record { edition = accepted-by _ (c .before .before .before .before .before .before .before .before .before .before .before .before .pre) .edition; low = k .number; pair = k .pair; sun = given-decides _ _ true (some (c .before .before .before)) (sym (found (c .before) .within) ∙ c .if5 .taken) }
 
 weekday-met-requires-2 : tie.Need-weekday-met-requires-2
 weekday-met-requires-2 c κs = inside-2 c .low
@@ -108,7 +117,7 @@ accepted-requires-5 : tie.Need-accepted-requires-5
 accepted-requires-5 c κs = search needs
 
 returns-6 : tie.Need-returns-6
-returns-6 c = c .accepted5 .ensures ∙ by-no-more _ _ _ (inside-2 (c .before .before .before .before)) _ (c .before .before .before .weekday-met2 .ensures) _ (c .before .before .if6 .left) (c .before .before .before .before .before .before .before .before .before .before .before .asks-more .ensures) (c .before .if7 .taken)
+returns-6 c = c .accepted5 .ensures ∙ by-no-more _ _ _ (inside-2 (c .before .before .before .before)) _ (c .before .before .before .weekday-met2 .ensures) _ (c .before .before .if6 .left) (c .before .before .before .before .before .before .before .before .before .before .asks-more .ensures) (c .before .if7 .taken)
 
 others-met-requires-2 : tie.Need-others-met-requires-2
 others-met-requires-2 c κs = search needs
@@ -122,26 +131,25 @@ accepted-requires-6 c κs = search needs
 returns-7 : tie.Need-returns-7
 returns-7 c = c .accepted6 .ensures ∙ by-more _ _ _ (inside-2 (c .before .before .before .before .before)) _ (c .before .before .before .before .weekday-met2 .ensures) _ (c .before .before .before .if6 .left) (c .before .others-met2 .ensures)
 
-sub-ahead : tie.Need-sub-ahead
-sub-ahead c = omega (arith, is-small _ _ _ (c .before .before .difference .ensures))
-
 sub-accepted : tie.Need-sub-accepted
 sub-accepted c = search needs
 
+low : (c : tie.After-struct-known2) → c .before .before .nearer .result .ahead < circle
+low c = rw (found (c .before .before) .nearest (c .before .if5 .left)) (nearest-low _ _ (some (c .before .before .before .before)))
+
 add-accepted-7 : tie.Need-add-accepted-7
-add-accepted-7 c = search needs
+add-accepted-7 c = omega (arith, low c)
 
 add-accepted-8 : tie.Need-add-accepted-8
-add-accepted-8 c = omega (arith, is-small _ _ _ (c .before .before .difference .ensures), day (c .before .before .before .before .before .before .before .before .before .before) .number)
+add-accepted-8 c = omega (arith, low c, day (c .before .before .before .before .before .before .before .before .before .before) .number)
 
 accepted-requires-7 : tie.Need-accepted-requires-7
 accepted-requires-7 c κs = search needs
 
 returns-8 : tie.Need-returns-8
 returns-8 c =
-    let far = distance (c .before .before .before) in
     c .accepted7 .ensures
-    ∙ rw far (outside _ _ (day (c .before .before .before .before .before .before .before .before .before .before .before) .number) (c .before .before .before .before .before .before .before .before .before .before .before .before .before .before .pre) (not-false _ (c .before .before .before .before .before .if2 .left)) (rw far at (c .before .if5 .left)))
+    ∙ outside _ _ _ (day (c .before .before .before .before .before .before .before .before .before .before .before) .number) (some (c .before .before .before .before .before)) (found (c .before .before .before)) (c .before .before .if5 .left)
 
 pub examine-any-day-spec : {M : Type 1} → statement M
 examine-any-day-spec =
@@ -151,7 +159,8 @@ examine-any-day-spec =
     refused-requires
     returns
     asks-more-requires
-    element-copy-out-arc
+    element-copy-out-arcs
+    given-requires
     weekday-met-requires
     add-accepted
     accepted-requires
@@ -164,7 +173,7 @@ examine-any-day-spec =
     accepted-requires-3
     returns-4
     mean-longitude-requires
-    difference-requires
+    nearer-requires
     weekday-met-requires-2
     add-accepted-4
     accepted-requires-4
@@ -176,7 +185,6 @@ examine-any-day-spec =
     add-accepted-6
     accepted-requires-6
     returns-7
-    sub-ahead
     sub-accepted
     add-accepted-7
     add-accepted-8

@@ -1,8 +1,5 @@
--- `measured` meets its contract: the library's promise at the host's query, whose Sun arc is given.
-use mathlib.Core.Bool.{true}
-use mathlib.Core.Path.{refl}
+-- `measured` meets its contract: the library's promise at the host's query.
 use borrow.Author.Needs.{needs}
-use Rattle.host.specs.HostQuery.{hostQuery}
 use Rattle.host.proofs.searches.measured.Statement.{statement}
 use Rattle.host.proofs.searches.measured.Tie as tie
 
@@ -13,10 +10,7 @@ measure-requires : tie.Need-measure-requires
 measure-requires c κs = search needs
 
 returns : tie.Need-returns
-unfolding hostQuery
-returns c =
-    let m = rw (c .before .query-of .ensures) at (c .measure .ensures) in
-    record { count = m .count; visits = m .visits; limit = m .limit (refl {a = true}) }
+returns c = rw (c .before .query-of .ensures) at (c .measure .ensures)
 
 pub measured-spec : {M : Type 1} → statement M
 measured-spec = tie.close (tie.spec query-of-requires measure-requires returns)

@@ -1,0 +1,115 @@
+-- Old queries are listed alike: a set of one weekday and one arc of a body mean what a weekday and an arc meant in paper 01, so a query of one weekday and one
+-- arc a body has the matching days, the visited days and the limit that it had. Each condition by its cases, the lists by induction. Assumes nothing.
+use Prim.Native.Nat.{ℕ, zero, suc, _+_, min}
+use mathlib.Core.Path.{_≡_, refl, ap, _∙_}
+use mathlib.Core.Bool.{Bool, true, false, cond, _||_, or-false, and-true}
+use mathlib.Core.List.{List, [], _∷_, map}
+use native.Mathlib.Omega.{arith}
+use lib.Dec.{leb, ltb}
+use lib.ListN.{length, getD, List·getD-map}
+use Rattle.days.specs.Days.{weekdayOn, pairAt}
+use Rattle.days.proofs.Weekdays.{only-in-set, only-in-range}
+use Rattle.integers.specs.RoundedUp.{roundedUp}
+use Rattle.longitudes.specs.Longitudes.{circle, longitudeAt, differenceOf}
+use Rattle.longitudes.proofs.Subtraction.{difference-small}
+use Rattle.query.specs.declared.Asked.{Asked}
+use Rattle.query.specs.declared.Arc.{Arc}
+use Rattle.query.specs.declared.BodyArcs.{BodyArcs}
+use Rattle.query.specs.Conditions.{noArc, noArcs, onlyArc, meets, weekdayMet, givenArcs, inArc, inSome, inArcs, nearestStart, bodyMet, arcsMet, askedInRange, weekdaysInRange, arcInRange, bodyArcsInRange}
+use Rattle.query.specs.Query.{conditionsMet}
+use Rattle.search.specs.Look.{sunOn, sunInArcs, nextDay}
+use Rattle.search.specs.Days.{filtered, spanLength, span, matchingDays, visitedFrom, visitedDays, visitLimit}
+use Rattle.search.specs.Single.{Single, setOf, queryOf, inSingleArc, singleArc, sunInSingle, singleMet, singleNext, singleVisits, singleLimit}
+
+-- THE LAW of one weekday, and of its range
+pub single-weekday : (a : Asked) (n : ℕ) → weekdayMet (setOf a) (weekdayOn n) ≡ meets a (weekdayOn n)
+unfolding weekdayMet meets
+single-weekday a n = ap (λ (t : Bool). cond (a .given) t true) (only-in-set (a .value) (weekdayOn n) (omega arith))
+
+pub single-weekday-range : (a : Asked) → weekdaysInRange (setOf a) ≡ askedInRange a 6
+unfolding weekdaysInRange askedInRange
+single-weekday-range a = ap (λ (t : Bool). cond (a .given) t true) (only-in-range (a .value))
+
+-- THE LAW of one arc, and of its range
+pub single-arc : (a : Arc) (x : ℕ) → inArcs (onlyArc a) x ≡ inSingleArc a x
+unfolding inArcs inSingleArc givenArcs inSome inArc
+single-arc a x = go (a .given)
+  where
+    go : (g : Bool) → cond (g || false) (inSome (cond g (a ∷ []) []) x) true ≡ cond g (inArc a x) true
+    go true = or-false (inArc a x)
+    go false = refl
+
+pub single-arc-range : (a : Arc) → bodyArcsInRange (onlyArc a) ≡ arcInRange a
+unfolding bodyArcsInRange arcInRange
+single-arc-range a = and-true (arcInRange a)
+
+-- from outside the one arc, its start is the nearest
+step : (a : Arc) (n : ℕ) → cond (inSingleArc a (sunOn n)) (n + 1) (n + roundedUp (nearestStart (givenArcs (onlyArc a)) (sunOn n)) 3549) ≡ cond (inSingleArc a (sunOn n)) (n + 1) (n + roundedUp (differenceOf (a .start) (sunOn n)) 3549)
+unfolding inSingleArc nearestStart givenArcs
+step a n = go (a .given)
+  where
+    near : min (differenceOf (a .start) (sunOn n)) circle ≡ differenceOf (a .start) (sunOn n)
+    near = omega (arith, difference-small (a .start) (sunOn n))
+
+    go :
+        (g : Bool) →
+        cond (cond g (ltb (differenceOf (sunOn n) (a .start)) (a .width)) true) (n + 1) (n + roundedUp (nearestStart (cond g (a ∷ []) []) (sunOn n)) 3549)
+        ≡ cond (cond g (ltb (differenceOf (sunOn n) (a .start)) (a .width)) true) (n + 1) (n + roundedUp (differenceOf (a .start) (sunOn n)) 3549)
+    go true = rw near
+    go false = refl
+
+one-given : (a : Arc) → a .given ≡ true → length (givenArcs (onlyArc a)) ≡ 1
+unfolding givenArcs
+one-given a e = rw e
+
+module _ (s : Single) where
+  arc-at : (body : ℕ) → getD (map onlyArc (s .arcs)) body noArcs ≡ onlyArc (singleArc s body)
+  arc-at body = List·getD-map onlyArc (s .arcs) body noArc
+
+  body-met : (body n : ℕ) → bodyMet (map onlyArc (s .arcs)) (pairAt n) body ≡ inSingleArc (singleArc s body) (longitudeAt body (pairAt n))
+  body-met body n = ap (λ (a : BodyArcs). inArcs a (longitudeAt body (pairAt n))) (arc-at body) ∙ single-arc (singleArc s body) (longitudeAt body (pairAt n))
+
+  -- a day meets the conditions as it did
+  pub single-met : (n : ℕ) → conditionsMet (queryOf s) n ≡ singleMet s n
+  unfolding conditionsMet arcsMet singleMet
+  single-met n =
+      rw (body-met 0 n, body-met 1 n, body-met 2 n, body-met 3 n, body-met 4 n, body-met 5 n, body-met 6 n, body-met 7 n, body-met 8 n, single-weekday (s .weekday) n)
+
+  sun-in : (n : ℕ) → sunInArcs (queryOf s) n ≡ sunInSingle s n
+  unfolding sunInArcs
+  sun-in n = body-met 0 n
+
+  -- the walk goes on as it did
+  pub single-next : (n : ℕ) → nextDay (queryOf s) n ≡ singleNext s n
+  unfolding nextDay singleNext
+  single-next n = rw (sun-in n, arc-at 0) (step (singleArc s 0) n)
+
+  visits-from : (n d : ℕ) → visitedFrom (queryOf s) n d ≡ singleVisits s n d
+  unfolding visitedFrom singleVisits
+  visits-from zero d = refl
+  visits-from (suc n) d = go (leb d (s .last)) (visits-from n (singleNext s d))
+    where
+      go : (b : Bool) → visitedFrom (queryOf s) n (singleNext s d) ≡ singleVisits s n (singleNext s d) → _≡_ {A = List ℕ} (elim b [ true ↦ d ∷ visitedFrom (queryOf s) n (nextDay (queryOf s) d) | false ↦ [] ]) (elim b [ true ↦ d ∷ singleVisits s n (singleNext s d) | false ↦ [] ])
+      go true ih = ap (λ (l : List ℕ). d ∷ l) (ap (visitedFrom (queryOf s) n) (single-next d) ∙ ih)
+      go false ih = refl
+
+  filtered-alike : (p q : ℕ → Bool) → ((n : ℕ) → p n ≡ q n) → (xs : List ℕ) → filtered p xs ≡ filtered q xs
+  unfolding filtered
+  filtered-alike p q h [] = refl
+  filtered-alike p q h (x ∷ xs) = rw (h x, filtered-alike p q h xs)
+
+  -- OLD QUERIES ARE LISTED ALIKE: the list, and both numbers
+  pub single-list : matchingDays (queryOf s) ≡ filtered (singleMet s) (span (queryOf s))
+  unfolding matchingDays
+  single-list = filtered-alike (conditionsMet (queryOf s)) (singleMet s) single-met (span (queryOf s))
+
+  pub single-visits : visitedDays (queryOf s) ≡ singleVisits s (spanLength (queryOf s)) (s .first)
+  unfolding visitedDays
+  single-visits = visits-from (spanLength (queryOf s)) (s .first)
+
+  -- and the limit, where the Sun's arc is given
+  pub single-limit : singleArc s 0 .given ≡ true → visitLimit (queryOf s) ≡ singleLimit s
+  unfolding visitLimit singleLimit
+  single-limit g =
+      rw (filtered-alike (sunInArcs (queryOf s)) (sunInSingle s) sun-in (span (queryOf s)), ap givenArcs (arc-at 0), one-given (singleArc s 0) g)
+      (omega arith)
