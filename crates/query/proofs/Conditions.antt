@@ -1,6 +1,6 @@
 -- A test of each of the bodies, by its outcomes; and a day's conditions from the outcomes of their tests, case by case.
 -- Assumes nothing.
-use mathlib.Core.Path.{_≡_, refl, sym, _∙_}
+use mathlib.Core.Path.{_≡_, refl, sym, ap, _∙_}
 use mathlib.Core.Bool.{Bool, true, false, cond, not, _&&_, _||_, and-true, and-false, or-true, or-false, true≢false, false≢true}
 use mathlib.Core.List.{List, [], _∷_}
 use Prim.Native.Nat.{ℕ, zero, suc, _≤_, _<_}
@@ -14,9 +14,12 @@ use Rattle.panchanga.specs.declared.Panchanga.{Panchanga}
 use Rattle.panchanga.specs.TrueLongitudes.{isEdition}
 use Rattle.panchanga.specs.OnDays.{tithiAt, nakshatraAt, yogaAt, panchangaOf}
 use Rattle.panchanga.proofs.Answers.{elements-given}
+use Rattle.query.specs.declared.Asked.{Asked}
 use Rattle.query.specs.declared.BodyArcs.{BodyArcs}
 use Rattle.query.specs.declared.Query.{Query}
-use Rattle.query.specs.Conditions.{eachOther, someOther, eachBody, meets, weekdayMet, ifGiven, givenArcs, arcsGiven, inArc, inSome, inArcs, arcsAt, bodyArcsInRange, arcsInRange, bodyMet, arcsMet, otherArcsMet, elementsMet, othersMet, otherArcsGiven, asksMore}
+use Rattle.query.specs.declared.More.{More}
+use Rattle.query.specs.declared.More.the-variants.{Nothing, Elements, Arcs}
+use Rattle.query.specs.Conditions.{eachOther, someOther, eachBody, meets, weekdayMet, ifGiven, givenArcs, arcsGiven, inArc, inSome, inArcs, arcsAt, bodyArcsInRange, arcsInRange, bodyMet, arcsMet, otherArcsMet, elementsMet, queryElementsMet, othersMet, otherArcsGiven, elementsGiven, moreAsked}
 use Rattle.query.specs.Query.{conditionsMet}
 
 pub neither : (a b : Bool) → (a || b) ≡ false → (a ≡ false) × (b ≡ false)
@@ -141,33 +144,68 @@ elements-on edition d found r e =
     let given = e ∙ elements-given edition d (record { edition = r .1; range = r .0 }) in
     record { tithi = rw given; nakshatra = rw given; yoga = rw given }
 
-module _ (q : Query) (d : Day) where
-  pub only-nakshatra : (found : Bool) → q .tithi .given ≡ false → q .yoga .given ≡ false → found ≡ meets (q .nakshatra) (nakshatraAt (q .edition) d) → found ≡ elementsMet q d
+-- the elements that are asked for, of a day in range in an edition
+module _ (edition : ℕ) (tithi nakshatra yoga : Asked) (d : Day) where
+  pub only-nakshatra : (found : Bool) → tithi .given ≡ false → yoga .given ≡ false → found ≡ meets nakshatra (nakshatraAt edition d) → found ≡ elementsMet edition tithi nakshatra yoga d
   unfolding elementsMet meets
-  only-nakshatra found t y e = e ∙ rw (t, y) (sym (and-true (meets (q .nakshatra) (nakshatraAt (q .edition) d))))
+  only-nakshatra found t y e = e ∙ rw (t, y) (sym (and-true (meets nakshatra (nakshatraAt edition d))))
 
-  -- the elements in turn: the first that is not met decides, else the last
-  pub tithi-not-met : meets (q .tithi) (tithiAt (q .edition) d) ≡ false → false ≡ elementsMet q d
+  -- in turn: the first that is not met decides, else the last
+  pub tithi-not-met : meets tithi (tithiAt edition d) ≡ false → false ≡ elementsMet edition tithi nakshatra yoga d
   unfolding elementsMet
   tithi-not-met e = rw e
 
-  pub nakshatra-not-met : meets (q .tithi) (tithiAt (q .edition) d) ≡ true → meets (q .nakshatra) (nakshatraAt (q .edition) d) ≡ false → false ≡ elementsMet q d
+  pub nakshatra-not-met : meets tithi (tithiAt edition d) ≡ true → meets nakshatra (nakshatraAt edition d) ≡ false → false ≡ elementsMet edition tithi nakshatra yoga d
   unfolding elementsMet
   nakshatra-not-met e f = rw (e, f)
 
-  pub yoga-decides : (found : Bool) → meets (q .tithi) (tithiAt (q .edition) d) ≡ true → meets (q .nakshatra) (nakshatraAt (q .edition) d) ≡ true → found ≡ meets (q .yoga) (yogaAt (q .edition) d) → found ≡ elementsMet q d
+  pub yoga-decides : (found : Bool) → meets tithi (tithiAt edition d) ≡ true → meets nakshatra (nakshatraAt edition d) ≡ true → found ≡ meets yoga (yogaAt edition d) → found ≡ elementsMet edition tithi nakshatra yoga d
   unfolding elementsMet
   yoga-decides found e f g = g ∙ rw (e, f)
 
+  pub elements-tested : {found : Bool} → (inRange d ≡ true) × (isEdition edition ≡ true) → found ≡ elementsMet edition tithi nakshatra yoga d → found ≡ (isEdition edition && (inRange d && elementsMet edition tithi nakshatra yoga d))
+  elements-tested r e = e ∙ rw (r .0, r .1)
+
+-- what more is asked says which conditions are not given
+abbrev number : More → ℕ
+number Nothing = 0
+number Elements = 1
+number Arcs = 2
+
+module _ (q : Query) where
+  pub only-elements : moreAsked q ≡ Elements → otherArcsGiven (q .arcs) ≡ false
+  unfolding moreAsked
+  only-elements e = go (otherArcsGiven (q .arcs)) (elementsGiven q) refl (ap number e)
+    where
+      go : (t u : Bool) → otherArcsGiven (q .arcs) ≡ t → number (cond t Arcs (cond u Elements Nothing)) ≡ 1 → otherArcsGiven (q .arcs) ≡ false
+      go true u a k = absurd (omega arith)
+      go false u a k = a
+
+  nothing-more : moreAsked q ≡ Nothing → (otherArcsGiven (q .arcs) ≡ false) × (elementsGiven q ≡ false)
+  unfolding moreAsked
+  nothing-more e = go (otherArcsGiven (q .arcs)) (elementsGiven q) refl refl (ap number e)
+    where
+      go : (t u : Bool) → otherArcsGiven (q .arcs) ≡ t → elementsGiven q ≡ u → number (cond t Arcs (cond u Elements Nothing)) ≡ 0 → (otherArcsGiven (q .arcs) ≡ false) × (elementsGiven q ≡ false)
+      go true u a b k = absurd (omega arith)
+      go false true a b k = absurd (omega arith)
+      go false false a b k = (a, b)
+
+module _ (q : Query) (d : Day) where
+  -- where no arc of another body is given, the elements decide
+  pub elements-decide : otherArcsGiven (q .arcs) ≡ false → isEdition (q .edition) && (inRange d && queryElementsMet q d) ≡ othersMet q d
+  unfolding otherArcsGiven othersMet otherArcsMet inArcs
+  elements-decide e =
+      let arc = all-false (λ (body : ℕ). arcsGiven (arcsAt (q .arcs) body)) e in
+      rw (arc 1 (lit< tt) (lit< tt), arc 2 (lit< tt) (lit< tt), arc 3 (lit< tt) (lit< tt), arc 4 (lit< tt) (lit< tt), arc 5 (lit< tt) (lit< tt), arc 6 (lit< tt) (lit< tt), arc 7 (lit< tt) (lit< tt), arc 8 (lit< tt) (lit< tt))
+
   -- where nothing more is asked, nothing more is to be met
-  pub no-more : isEdition (q .edition) ≡ true → asksMore q ≡ false → inRange d ≡ true → othersMet q d ≡ true
-  unfolding asksMore otherArcsGiven othersMet otherArcsMet elementsMet meets inArcs
+  pub no-more : isEdition (q .edition) ≡ true → moreAsked q ≡ Nothing → inRange d ≡ true → othersMet q d ≡ true
+  unfolding elementsMet meets
   no-more edition e r =
-      let tithi = neither (q .tithi .given) (q .nakshatra .given || (q .yoga .given || otherArcsGiven (q .arcs))) e in
-      let nakshatra = neither (q .nakshatra .given) (q .yoga .given || otherArcsGiven (q .arcs)) (tithi .1) in
-      let yoga = neither (q .yoga .given) (otherArcsGiven (q .arcs)) (nakshatra .1) in
-      let arc = all-false (λ (body : ℕ). arcsGiven (arcsAt (q .arcs) body)) (yoga .1) in
-      rw (edition, r, tithi .0, nakshatra .0, yoga .0, arc 1 (lit< tt) (lit< tt), arc 2 (lit< tt) (lit< tt), arc 3 (lit< tt) (lit< tt), arc 4 (lit< tt) (lit< tt), arc 5 (lit< tt) (lit< tt), arc 6 (lit< tt) (lit< tt), arc 7 (lit< tt) (lit< tt), arc 8 (lit< tt) (lit< tt))
+      let none = nothing-more q e in
+      let tithi = neither (q .tithi .given) (q .nakshatra .given || q .yoga .given) (none .1) in
+      let others = neither (q .nakshatra .given) (q .yoga .given) (tithi .1) in
+      sym (elements-decide (none .0)) ∙ rw (edition, r, tithi .0, others .0, others .1)
 
 -- the conditions of day n, in the order in which they are tested
 module _ (q : Query) (n : ℕ) where

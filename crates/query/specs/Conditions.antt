@@ -16,6 +16,8 @@ use Rattle.query.specs.declared.Weekdays.{Weekdays}
 use Rattle.query.specs.declared.Arc.{Arc}
 use Rattle.query.specs.declared.BodyArcs.{BodyArcs}
 use Rattle.query.specs.declared.Query.{Query}
+use Rattle.query.specs.declared.More.{More}
+use Rattle.query.specs.declared.More.the-variants.{Nothing, Elements, Arcs}
 
 -- no number asked for, no weekdays, no arc, and no arc of a body
 abbrev pub notAsked : Asked
@@ -97,23 +99,30 @@ arcsMet arcs d = eachBody (bodyMet arcs d)
 unfoldable pub otherArcsMet : List BodyArcs → Day → Bool
 otherArcsMet arcs d = eachOther (bodyMet arcs d)
 
--- in the query's edition
-unfoldable pub elementsMet : Query → Day → Bool
-elementsMet q d =
-    meets (q .tithi) (tithiAt (q .edition) d)
-    && (meets (q .nakshatra) (nakshatraAt (q .edition) d) && meets (q .yoga) (yogaAt (q .edition) d))
+-- a day has the elements asked for, in an edition
+unfoldable pub elementsMet : ℕ → Asked → Asked → Asked → Day → Bool
+elementsMet edition tithi nakshatra yoga d =
+    meets tithi (tithiAt edition d) && (meets nakshatra (nakshatraAt edition d) && meets yoga (yogaAt edition d))
+
+-- those that a query asks for
+abbrev pub queryElementsMet : Query → Day → Bool
+queryElementsMet q d = elementsMet (q .edition) (q .tithi) (q .nakshatra) (q .yoga) d
 
 -- a day meets all conditions beside the Sun's arcs and the weekdays; a pair out of range is no day, and a number that is no edition has no elements
 unfoldable pub othersMet : Query → Day → Bool
-othersMet q d = isEdition (q .edition) && (inRange d && (otherArcsMet (q .arcs) d && elementsMet q d))
+othersMet q d = isEdition (q .edition) && (inRange d && (otherArcsMet (q .arcs) d && queryElementsMet q d))
 
 -- an arc of another body than the Sun is given
 unfoldable pub otherArcsGiven : List BodyArcs → Bool
 otherArcsGiven arcs = someOther (λ (body : ℕ). arcsGiven (arcsAt arcs body))
 
--- something is asked beside the Sun's arcs and the weekdays
-unfoldable pub asksMore : Query → Bool
-asksMore q = q .tithi .given || (q .nakshatra .given || (q .yoga .given || otherArcsGiven (q .arcs)))
+-- an element is asked for
+abbrev pub elementsGiven : Query → Bool
+elementsGiven q = q .tithi .given || (q .nakshatra .given || q .yoga .given)
+
+-- what is asked beside the Sun's arcs and the weekdays
+unfoldable pub moreAsked : Query → More
+moreAsked q = cond (otherArcsGiven (q .arcs)) Arcs (cond (elementsGiven q) Elements Nothing)
 
 -- a number that is given is at most the largest there is
 unfoldable pub askedInRange : Asked → ℕ → Bool

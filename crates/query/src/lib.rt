@@ -10,7 +10,7 @@ ghost use Rattle.longitudes.specs.Longitudes.{longitudeAt};
 ghost use Rattle.longitudes.specs.Answers.{bodyNumber};
 ghost use Rattle.panchanga.specs.TrueLongitudes.{isEdition};
 ghost use Rattle.panchanga.specs.OnDays.{nakshatraAt};
-ghost use Rattle.query.specs.Conditions.{onlyWeekday, onlyArc, meets, arcsGiven, givenArcs, inArc, inSome, inArcs, askedInRange, weekdaysInRange, arcInRange, bodyArcsInRange, arcsInRange, conditionsInRange, otherArcsMet, elementsMet, othersMet, otherArcsGiven, asksMore};
+ghost use Rattle.query.specs.Conditions.{onlyWeekday, onlyArc, meets, arcsGiven, givenArcs, inArc, inSome, inArcs, askedInRange, weekdaysInRange, arcInRange, bodyArcsInRange, arcsInRange, conditionsInRange, otherArcsMet, elementsMet, othersMet, otherArcsGiven, moreAsked};
 ghost use Rattle.query.specs.Query.{refusalOf};
 
 // The set of all seven weekdays.
@@ -51,6 +51,13 @@ pub struct Query {
     pub nakshatra: Asked,
     pub yoga: Asked,
     pub arcs: [BodyArcs; 9],
+}
+
+// What is asked beside the Sun's arcs and the weekdays: nothing, elements alone, or other bodies' arcs, with elements or without.
+pub enum More {
+    Nothing,
+    Elements,
+    Arcs,
 }
 
 impl Asked {
@@ -308,20 +315,22 @@ fn other_arcs_met(arcs: [BodyArcs; 9], day: Day) -> bool
     in_arcs(arcs[8], Body::Saturn, day)
 }
 
-// True longitudes take long to reckon: this is done only where an element is asked for, the Sun's only for a tithi or a yoga.
-fn elements_met(query: Query, day: Day) -> bool
-    requires { ⌜ (inRange day ≡ true) × (isEdition (query .edition) ≡ true) ⌝ }
-    ensures { λ r. ⌜ r ≡ elementsMet query day ⌝ }
+// Whether a day has the elements asked for. True longitudes take long to reckon: this is done only where an element is asked for, the Sun's only for a tithi or a yoga. A pair that is no day has none, nor has any day in what is no edition.
+pub fn elements_met(edition: u32, tithi: Asked, nakshatra: Asked, yoga: Asked, day: Day) -> bool
+    ensures { λ r. ⌜ r ≡ (isEdition edition && (inRange day && elementsMet edition tithi nakshatra yoga day)) ⌝ }
 {
-    let tithi = query.tithi;
-    let nakshatra = query.nakshatra;
-    let yoga = query.yoga;
+    if !panchanga::is_edition(edition) {
+        return false;
+    }
+    if !day.in_range() {
+        return false;
+    }
     if !tithi.given {
         if !yoga.given {
-            return nakshatra_met(nakshatra, query.edition, day);
+            return nakshatra_met(nakshatra, edition, day);
         }
     }
-    let found = panchanga::of_day(query.edition, day);
+    let found = panchanga::of_day(edition, day);
     if !tithi.admits(found.tithi) {
         return false;
     }
@@ -344,35 +353,40 @@ fn nakshatra_met(asked: Asked, edition: u32, day: Day) -> bool
 }
 
 // Whether a day meets all conditions beside the Sun's arcs and the weekdays: the other bodies' arcs, then the elements. A pair that is no day meets none, nor does any day those of a query without an edition.
-pub fn others_met(query: Query, day: Day) -> bool
-    ensures { λ r. ⌜ r ≡ othersMet query day ⌝ }
+pub fn others_met(query: Query, pair: Day) -> bool
+    ensures { λ r. ⌜ r ≡ othersMet query pair ⌝ }
 {
-    if !panchanga::is_edition(query.edition) {
-        return false;
-    }
-    if !day.in_range() {
+    if !pair.in_range() {
         return false;
     }
     let arcs = query.arcs;
-    if !other_arcs_met(arcs, day) {
+    if !other_arcs_met(arcs, pair) {
         return false;
     }
-    elements_met(query, day)
+    elements_met(
+        query.edition,
+        query.tithi,
+        query.nakshatra,
+        query.yoga,
+        pair,
+    )
 }
 
-// Whether anything is asked beside the Sun's arcs and the weekdays.
-pub fn asks_more(query: Query) -> bool
-    ensures { λ r. ⌜ r ≡ asksMore query ⌝ }
+pub fn more_asked(query: Query) -> More
+    ensures { λ r. ⌜ r ≡ moreAsked query ⌝ }
 {
+    let arcs = query.arcs;
+    if other_arcs_given(arcs) {
+        return More::Arcs;
+    }
     if query.tithi.given {
-        return true;
+        return More::Elements;
     }
     if query.nakshatra.given {
-        return true;
+        return More::Elements;
     }
     if query.yoga.given {
-        return true;
+        return More::Elements;
     }
-    let arcs = query.arcs;
-    other_arcs_given(arcs)
+    More::Nothing
 }

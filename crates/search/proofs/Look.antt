@@ -7,14 +7,16 @@ use native.Mathlib.Omega.{arith}
 use lib.Dec.{leb}
 use borrow.Author.Tests.{leb-true, le-leb, lt-leb, eq-eqb, ne-eqb, not-true, not-false}
 use Rattle.days.specs.declared.Day.{Day}
-use Rattle.days.specs.Days.{lastDay, pairAt, weekdayOn}
+use Rattle.days.specs.Days.{lastDay, inRange, pairAt, weekdayOn}
 use Rattle.days.proofs.Laws.{pair-in-range}
 use Rattle.panchanga.specs.TrueLongitudes.{isEdition}
 use Rattle.query.specs.declared.Query.{Query}
+use Rattle.query.specs.declared.More.{More}
+use Rattle.query.specs.declared.More.the-variants.{Nothing, Elements}
 use Rattle.query.specs.Query.{sunArcs, conditionsMet, inSpan, matches, refusalOf}
-use Rattle.query.specs.Conditions.{weekdayMet, arcsGiven, othersMet, asksMore}
+use Rattle.query.specs.Conditions.{weekdayMet, arcsGiven, queryElementsMet, othersMet, moreAsked}
 use Rattle.query.proofs.Accepted.{accepted-by, edition-refused, edition-accepted}
-use Rattle.query.proofs.Conditions.{weekday-not-met, others-decide, no-more}
+use Rattle.query.proofs.Conditions.{weekday-not-met, others-decide, only-elements, elements-decide, no-more}
 use Rattle.search.specs.declared.Approach.{Approach}
 use Rattle.search.specs.declared.Examined.{Examined}
 use Rattle.search.specs.Look.{sunOn, sunInArcs, nextDay, notExamined, examinedOf}
@@ -55,8 +57,12 @@ module _ (q : Query) (n : ℕ) where
         inside others (i .low) (i .sun)
         (others-decide q n (i .edition) (i .low) (unfold sunInArcs in i .sun) (sym w ∙ not-false weekday t) ∙ ap (othersMet q) (sym (i .pair)) ∙ e)
 
-    pub by-no-more : (more : Bool) → not weekday ≡ false → more ≡ asksMore q → not more ≡ true → said true (n + 1) ≡ examinedAnyDay q n
-    by-no-more more t e f = by-others true t (no-more q d (i .edition) (sym e ∙ not-true more f) (rw (i .pair) (pair-in-range n (i .low))))
+    pub by-no-more : (more : More) → not weekday ≡ false → more ≡ moreAsked q → more ≡ Nothing → said true (n + 1) ≡ examinedAnyDay q n
+    by-no-more more t e f = by-others true t (no-more q d (i .edition) (sym e ∙ f) (rw (i .pair) (pair-in-range n (i .low))))
+
+    -- with no arc of another body, the elements
+    pub by-elements : (more : More) (found : Bool) → not weekday ≡ false → more ≡ moreAsked q → more ≡ Elements → found ≡ (isEdition (q .edition) && (inRange d && queryElementsMet q d)) → said found (n + 1) ≡ examinedAnyDay q n
+    by-elements more found t e f g = by-others found t (sym (g ∙ elements-decide q d (only-elements q (sym e ∙ f))))
 
     pub by-more : (others : Bool) → not weekday ≡ false → others ≡ othersMet q d → said others (n + 1) ≡ examinedAnyDay q n
     by-more others t e = by-others others t (sym e)

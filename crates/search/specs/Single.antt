@@ -13,7 +13,7 @@ use Rattle.query.specs.declared.Asked.{Asked}
 use Rattle.query.specs.declared.Weekdays.{Weekdays}
 use Rattle.query.specs.declared.Arc.{Arc}
 use Rattle.query.specs.declared.Query.{Query}
-use Rattle.query.specs.Conditions.{noArc, onlyArc, meets, eachBody, elementsMet}
+use Rattle.query.specs.Conditions.{noArc, onlyArc, meets, eachBody, queryElementsMet}
 use Rattle.search.specs.Look.{sunOn}
 use Rattle.search.specs.Days.{filtered, spanLength, span}
 
@@ -60,7 +60,7 @@ sunInSingle s n = inSingleArc (singleArc s 0) (sunOn n)
 unfoldable pub singleMet : Single → ℕ → Bool
 singleMet s n =
     eachBody (λ (body : ℕ). inSingleArc (singleArc s body) (longitudeAt body (pairAt n)))
-    && (meets (s .weekday) (weekdayOn n) && elementsMet (queryOf s) (pairAt n))
+    && (meets (s .weekday) (weekdayOn n) && queryElementsMet (queryOf s) (pairAt n))
 
 -- the day that the walk takes after day n
 unfoldable pub singleNext : Single → ℕ → ℕ

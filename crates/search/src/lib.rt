@@ -5,6 +5,7 @@ use longitudes::Body;
 use longitudes::CIRCLE;
 use query::Arc;
 use query::BodyArcs;
+use query::More;
 use query::Query;
 use query::Weekdays;
 ghost use mathlib.Core.Path.{_≡_};
@@ -188,7 +189,8 @@ fn nearer(arcs: BodyArcs, longitude: u32) -> Approach
 }
 
 // The look at a day, in the span or not: the only way to longitudes and conditions. It reckons them for the day given and for no other. The Sun's arcs come first, since they
-// decide the next day, then the weekday where it decides. (The calls of `others_met` are two, so that the compiler leaves it out of the scan's loop: most days do not come to it.)
+// decide the next day, then the weekday where it decides. (The calls of `others_met` are two, so that the compiler leaves it out of the scan's loop: most days do not come to it. Where
+// no other body has an arc, the elements alone are handed on: a whole query is copied field by field.)
 fn examine_any_day(query: Query, day: u32) -> Examined
     requires { ⌜ refusalOf query ≡ 0 ⌝ }
     ensures { λ r. ⌜ r ≡ examinedAnyDay query day ⌝ }
@@ -199,16 +201,26 @@ fn examine_any_day(query: Query, day: u32) -> Examined
     }
     let pair = found.day;
     let asked = query.weekdays;
-    let more = query::asks_more(query);
+    let more = query::more_asked(query);
     let arcs = query.arcs[0];
     if !arcs.given() {
         if !weekday_met(asked, day) {
             return Examined::accepted(false, day + 1);
         }
-        if !more {
-            return Examined::accepted(true, day + 1);
-        }
-        return Examined::accepted(query::others_met(query, pair), day + 1);
+        return match more {
+            More::Nothing => Examined::accepted(true, day + 1),
+            More::Elements => Examined::accepted(
+                query::elements_met(
+                    query.edition,
+                    query.tithi,
+                    query.nakshatra,
+                    query.yoga,
+                    pair,
+                ),
+                day + 1,
+            ),
+            More::Arcs => Examined::accepted(query::others_met(query, pair), day + 1),
+        };
     }
     let sun = longitudes::mean_longitude(Body::Sun, pair);
     let found = nearer(arcs, sun.seconds);
@@ -216,10 +228,20 @@ fn examine_any_day(query: Query, day: u32) -> Examined
         if !weekday_met(asked, day) {
             return Examined::accepted(false, day + 1);
         }
-        if !more {
-            return Examined::accepted(true, day + 1);
-        }
-        return Examined::accepted(query::others_met(query, pair), day + 1);
+        return match more {
+            More::Nothing => Examined::accepted(true, day + 1),
+            More::Elements => Examined::accepted(
+                query::elements_met(
+                    query.edition,
+                    query.tithi,
+                    query.nakshatra,
+                    query.yoga,
+                    pair,
+                ),
+                day + 1,
+            ),
+            More::Arcs => Examined::accepted(query::others_met(query, pair), day + 1),
+        };
     }
     Examined::accepted(false, day + (found.ahead + (SUN_ADVANCE - 1)) / SUN_ADVANCE)
 }

@@ -1,4 +1,4 @@
--- `examine_any_day` meets its contract: no such day; the Sun outside its arc; inside it, decided by the weekday, by nothing more being asked, or by what more is asked.
+-- `examine_any_day` meets its contract: no such day; the Sun outside its arc; inside it, decided by the weekday, by nothing more being asked, by the elements, or by all that is asked.
 use borrow.Author.Needs.{needs}
 use borrow.Author.Tests.{not-true, not-false}
 use mathlib.Core.Path.{_≡_, ap, sym, subst, _∙_}
@@ -14,7 +14,7 @@ use Rattle.search.specs.Look.{sunOn}
 use Rattle.query.specs.Conditions.{arcsGiven}
 use Rattle.search.specs.Passes.{Approached}
 use Rattle.search.proofs.Arc.{given-decides, no-arcs, nearest-low}
-use Rattle.search.proofs.Look.{Inside, no-day, outside, by-weekday, by-no-more, by-more}
+use Rattle.search.proofs.Look.{Inside, no-day, outside, by-weekday, by-no-more, by-elements, by-more}
 use Rattle.search.proofs.examine_any_day.Statement.{statement}
 use Rattle.search.proofs.examine_any_day.Tie as tie
 
@@ -32,8 +32,8 @@ returns c =
 day : (c : tie.Else1) → ThatDay (c .before .before .before .args .day) (c .before .before .from-number .result)
 day c = that-day _ _ (c .before .before .from-number .ensures) (c .if1 .left)
 
-asks-more-requires : tie.Need-asks-more-requires
-asks-more-requires c κs = search needs
+more-asked-requires : tie.Need-more-asked-requires
+more-asked-requires c κs = search needs
 
 element-copy-out-arcs : tie.Need-element-copy-out-arcs
 element-copy-out-arcs c = search needs
@@ -56,26 +56,47 @@ accepted-requires c κs = search needs
 returns-2 : tie.Need-returns-2
 returns-2 c = c .accepted .ensures ∙ by-weekday _ _ _ (inside (c .before .before .before)) _ (c .before .before .weekday-met .ensures) (c .before .if3 .taken)
 
+enum-told : tie.Need-enum-told
+enum-told c = search needs
+
 add-accepted-2 : tie.Need-add-accepted-2
-add-accepted-2 c = omega (arith, inside (c .before .before .before) .low)
+add-accepted-2 c = omega (arith, inside (c .before .before .before .before) .low)
 
 accepted-requires-2 : tie.Need-accepted-requires-2
 accepted-requires-2 c κs = search needs
 
-returns-3 : tie.Need-returns-3
-returns-3 c = c .accepted2 .ensures ∙ by-no-more _ _ _ (inside (c .before .before .before .before)) _ (c .before .before .before .weekday-met .ensures) _ (c .before .before .if3 .left) (c .before .before .before .before .before .before .before .asks-more .ensures) (c .before .if4 .taken)
+enum-told-2 : tie.Need-enum-told-2
+enum-told-2 c = search needs
 
-others-met-requires : tie.Need-others-met-requires
-others-met-requires c κs = search needs
+elements-met-requires : tie.Need-elements-met-requires
+elements-met-requires c κs = search needs
 
 add-accepted-3 : tie.Need-add-accepted-3
-add-accepted-3 c = omega (arith, inside (c .before .before .before .before) .low)
+add-accepted-3 c = omega (arith, inside (c .before .before .before .before .before .before .before .before) .low)
 
 accepted-requires-3 : tie.Need-accepted-requires-3
 accepted-requires-3 c κs = search needs
 
+enum-told-3 : tie.Need-enum-told-3
+enum-told-3 c = search needs
+
+others-met-requires : tie.Need-others-met-requires
+others-met-requires c κs = search needs
+
+add-accepted-4 : tie.Need-add-accepted-4
+add-accepted-4 c = omega (arith, inside (c .before .before .before .before .before) .low)
+
+accepted-requires-4 : tie.Need-accepted-requires-4
+accepted-requires-4 c κs = search needs
+
+returns-3 : tie.Need-returns-3
+returns-3 c = c .accepted2 .ensures ∙ by-no-more _ _ _ (inside (c .before .before .before .before .before)) _ (c .before .before .before .before .weekday-met .ensures) _ (c .before .before .before .if3 .left) (c .before .before .before .before .before .before .before .before .more-asked .ensures) (c .before .enum-told .given .1)
+
 returns-4 : tie.Need-returns-4
-returns-4 c = c .accepted3 .ensures ∙ by-more _ _ _ (inside (c .before .before .before .before .before)) _ (c .before .before .before .before .weekday-met .ensures) _ (c .before .before .before .if3 .left) (c .before .others-met .ensures)
+returns-4 c = c .accepted3 .ensures ∙ by-elements _ _ _ (inside (c .before .before .before .before .before .before .before .before .before)) _ (c .before .before .before .before .before .before .before .before .weekday-met .ensures) _ _ (c .before .before .before .before .before .before .before .if3 .left) (c .before .before .before .before .before .before .before .before .before .before .before .before .more-asked .ensures) (c .before .before .before .before .before .enum-told2 .given .1) (c .before .elements-met .ensures)
+
+returns-5 : tie.Need-returns-5
+returns-5 c = c .accepted4 .ensures ∙ by-more _ _ _ (inside (c .before .before .before .before .before .before)) _ (c .before .before .before .before .before .weekday-met .ensures) _ (c .before .before .before .before .if3 .left) (c .before .others-met .ensures)
 
 mean-longitude-requires : tie.Need-mean-longitude-requires
 mean-longitude-requires c κs = search needs
@@ -93,34 +114,25 @@ found c =
     (given-seconds _ _ (c .before .mean-longitude .ensures) (k .range) ∙ ap (longitudeAt 0) (k .pair))
     (c .nearer .ensures)
 
-inside-2 : (c : tie.Then5) → Inside (c .before .before .before .before .before .before .before .before .before .before .before .before .args .t1) (c .before .before .before .before .before .before .before .before .before .before .before .before .args .day) (c .before .before .before .before .before .before .before .before .before .before .before .from-number .result .day)
+inside-2 : (c : tie.Then4) → Inside (c .before .before .before .before .before .before .before .before .before .before .before .before .args .t1) (c .before .before .before .before .before .before .before .before .before .before .before .before .args .day) (c .before .before .before .before .before .before .before .before .before .before .before .from-number .result .day)
 inside-2 c =
     let k = day (c .before .before .before .before .before .before .before .before .before) in
-    record { edition = accepted-by _ (c .before .before .before .before .before .before .before .before .before .before .before .before .pre) .edition; low = k .number; pair = k .pair; sun = given-decides _ _ true (some (c .before .before .before)) (sym (found (c .before) .within) ∙ c .if5 .taken) }
+    record { edition = accepted-by _ (c .before .before .before .before .before .before .before .before .before .before .before .before .pre) .edition; low = k .number; pair = k .pair; sun = given-decides _ _ true (some (c .before .before .before)) (sym (found (c .before) .within) ∙ c .if4 .taken) }
 
 weekday-met-requires-2 : tie.Need-weekday-met-requires-2
 weekday-met-requires-2 c κs = inside-2 c .low
 
-add-accepted-4 : tie.Need-add-accepted-4
-add-accepted-4 c = omega (arith, inside-2 (c .before .before) .low)
-
-accepted-requires-4 : tie.Need-accepted-requires-4
-accepted-requires-4 c κs = search needs
-
-returns-5 : tie.Need-returns-5
-returns-5 c = c .accepted4 .ensures ∙ by-weekday _ _ _ (inside-2 (c .before .before .before)) _ (c .before .before .weekday-met2 .ensures) (c .before .if6 .taken)
-
 add-accepted-5 : tie.Need-add-accepted-5
-add-accepted-5 c = omega (arith, inside-2 (c .before .before .before) .low)
+add-accepted-5 c = omega (arith, inside-2 (c .before .before) .low)
 
 accepted-requires-5 : tie.Need-accepted-requires-5
 accepted-requires-5 c κs = search needs
 
 returns-6 : tie.Need-returns-6
-returns-6 c = c .accepted5 .ensures ∙ by-no-more _ _ _ (inside-2 (c .before .before .before .before)) _ (c .before .before .before .weekday-met2 .ensures) _ (c .before .before .if6 .left) (c .before .before .before .before .before .before .before .before .before .before .asks-more .ensures) (c .before .if7 .taken)
+returns-6 c = c .accepted5 .ensures ∙ by-weekday _ _ _ (inside-2 (c .before .before .before)) _ (c .before .before .weekday-met2 .ensures) (c .before .if5 .taken)
 
-others-met-requires-2 : tie.Need-others-met-requires-2
-others-met-requires-2 c κs = search needs
+enum-told-4 : tie.Need-enum-told-4
+enum-told-4 c = search needs
 
 add-accepted-6 : tie.Need-add-accepted-6
 add-accepted-6 c = omega (arith, inside-2 (c .before .before .before .before) .low)
@@ -128,28 +140,58 @@ add-accepted-6 c = omega (arith, inside-2 (c .before .before .before .before) .l
 accepted-requires-6 : tie.Need-accepted-requires-6
 accepted-requires-6 c κs = search needs
 
+enum-told-5 : tie.Need-enum-told-5
+enum-told-5 c = search needs
+
+elements-met-requires-2 : tie.Need-elements-met-requires-2
+elements-met-requires-2 c κs = search needs
+
+add-accepted-7 : tie.Need-add-accepted-7
+add-accepted-7 c = omega (arith, inside-2 (c .before .before .before .before .before .before .before .before) .low)
+
+accepted-requires-7 : tie.Need-accepted-requires-7
+accepted-requires-7 c κs = search needs
+
+enum-told-6 : tie.Need-enum-told-6
+enum-told-6 c = search needs
+
+others-met-requires-2 : tie.Need-others-met-requires-2
+others-met-requires-2 c κs = search needs
+
+add-accepted-8 : tie.Need-add-accepted-8
+add-accepted-8 c = omega (arith, inside-2 (c .before .before .before .before .before) .low)
+
+accepted-requires-8 : tie.Need-accepted-requires-8
+accepted-requires-8 c κs = search needs
+
 returns-7 : tie.Need-returns-7
-returns-7 c = c .accepted6 .ensures ∙ by-more _ _ _ (inside-2 (c .before .before .before .before .before)) _ (c .before .before .before .before .weekday-met2 .ensures) _ (c .before .before .before .if6 .left) (c .before .others-met2 .ensures)
+returns-7 c = c .accepted6 .ensures ∙ by-no-more _ _ _ (inside-2 (c .before .before .before .before .before)) _ (c .before .before .before .before .weekday-met2 .ensures) _ (c .before .before .before .if5 .left) (c .before .before .before .before .before .before .before .before .before .before .before .more-asked .ensures) (c .before .enum-told4 .given .1)
+
+returns-8 : tie.Need-returns-8
+returns-8 c = c .accepted7 .ensures ∙ by-elements _ _ _ (inside-2 (c .before .before .before .before .before .before .before .before .before)) _ (c .before .before .before .before .before .before .before .before .weekday-met2 .ensures) _ _ (c .before .before .before .before .before .before .before .if5 .left) (c .before .before .before .before .before .before .before .before .before .before .before .before .before .before .before .more-asked .ensures) (c .before .before .before .before .before .enum-told5 .given .1) (c .before .elements-met2 .ensures)
+
+returns-9 : tie.Need-returns-9
+returns-9 c = c .accepted8 .ensures ∙ by-more _ _ _ (inside-2 (c .before .before .before .before .before .before)) _ (c .before .before .before .before .before .weekday-met2 .ensures) _ (c .before .before .before .before .if5 .left) (c .before .others-met2 .ensures)
 
 sub-accepted : tie.Need-sub-accepted
 sub-accepted c = search needs
 
 low : (c : tie.After-struct-known2) → c .before .before .nearer .result .ahead < circle
-low c = rw (found (c .before .before) .nearest (c .before .if5 .left)) (nearest-low _ _ (some (c .before .before .before .before)))
+low c = rw (found (c .before .before) .nearest (c .before .if4 .left)) (nearest-low _ _ (some (c .before .before .before .before)))
 
-add-accepted-7 : tie.Need-add-accepted-7
-add-accepted-7 c = omega (arith, low c)
+add-accepted-9 : tie.Need-add-accepted-9
+add-accepted-9 c = omega (arith, low c)
 
-add-accepted-8 : tie.Need-add-accepted-8
-add-accepted-8 c = omega (arith, low c, day (c .before .before .before .before .before .before .before .before .before .before) .number)
+add-accepted-10 : tie.Need-add-accepted-10
+add-accepted-10 c = omega (arith, low c, day (c .before .before .before .before .before .before .before .before .before .before) .number)
 
-accepted-requires-7 : tie.Need-accepted-requires-7
-accepted-requires-7 c κs = search needs
+accepted-requires-9 : tie.Need-accepted-requires-9
+accepted-requires-9 c κs = search needs
 
-returns-8 : tie.Need-returns-8
-returns-8 c =
-    c .accepted7 .ensures
-    ∙ outside _ _ _ (day (c .before .before .before .before .before .before .before .before .before .before .before) .number) (some (c .before .before .before .before .before)) (found (c .before .before .before)) (c .before .before .if5 .left)
+returns-10 : tie.Need-returns-10
+returns-10 c =
+    c .accepted9 .ensures
+    ∙ outside _ _ _ (day (c .before .before .before .before .before .before .before .before .before .before .before) .number) (some (c .before .before .before .before .before)) (found (c .before .before .before)) (c .before .before .if4 .left)
 
 pub examine-any-day-spec : {M : Type 1} → statement M
 examine-any-day-spec =
@@ -158,35 +200,49 @@ examine-any-day-spec =
     from-number-requires
     refused-requires
     returns
-    asks-more-requires
+    more-asked-requires
     element-copy-out-arcs
     given-requires
     weekday-met-requires
     add-accepted
     accepted-requires
     returns-2
+    enum-told
     add-accepted-2
     accepted-requires-2
-    returns-3
-    others-met-requires
+    enum-told-2
+    elements-met-requires
     add-accepted-3
     accepted-requires-3
+    enum-told-3
+    others-met-requires
+    add-accepted-4
+    accepted-requires-4
+    returns-3
     returns-4
+    returns-5
     mean-longitude-requires
     nearer-requires
     weekday-met-requires-2
-    add-accepted-4
-    accepted-requires-4
-    returns-5
     add-accepted-5
     accepted-requires-5
     returns-6
-    others-met-requires-2
+    enum-told-4
     add-accepted-6
     accepted-requires-6
-    returns-7
-    sub-accepted
+    enum-told-5
+    elements-met-requires-2
     add-accepted-7
-    add-accepted-8
     accepted-requires-7
-    returns-8)
+    enum-told-6
+    others-met-requires-2
+    add-accepted-8
+    accepted-requires-8
+    returns-7
+    returns-8
+    returns-9
+    sub-accepted
+    add-accepted-9
+    add-accepted-10
+    accepted-requires-9
+    returns-10)
