@@ -85,8 +85,8 @@ static void *places(void *unused) {
     sink += graha_mean_sun(7) + graha_mean_moon(7) + graha_moon_apogee(7) + graha_moon_node(7) + graha_mean_mars(7) + graha_mercury_anomaly(7) +
             graha_mean_jupiter(7) + graha_venus_anomaly(7) + graha_mean_saturn(7) + graha_mean_sun_thirds(7) + graha_mean_moon_thirds(7) +
             graha_moon_apogee_thirds(7) + graha_moon_node_thirds(7) + graha_mean_mars_thirds(7) + graha_mercury_anomaly_thirds(7) +
-            graha_mean_jupiter_thirds(7) + graha_venus_anomaly_thirds(7) + graha_mean_saturn_thirds(7) + graha_true_sun(7) + graha_true_moon(7) + graha_tithi(7) +
-            graha_nakshatra(7) + graha_yoga(7) + graha_karana(7);
+            graha_mean_jupiter_thirds(7) + graha_venus_anomaly_thirds(7) + graha_mean_saturn_thirds(7) + graha_true_sun(7) + graha_true_moon(7) + graha_true_mars(7) +
+            graha_true_mercury(7) + graha_true_jupiter(7) + graha_true_venus(7) + graha_true_saturn(7) + graha_tithi(7) + graha_nakshatra(7) + graha_yoga(7) + graha_karana(7);
     return unused;
 }
 static void *calendar(void *unused) {
@@ -152,6 +152,11 @@ int main(int count, char **word) {
     pair("weekday", call_job(graha_day_weekday), call_job(plain_weekday), 1.1);
     pair("true Sun", call_job(graha_true_sun), call_job(plain_true_sun), 1.1);
     pair("true Moon", call_job(graha_true_moon), call_job(plain_true_moon), 1.1);
+    pair("true Mars", call_job(graha_true_mars), call_job(plain_true_mars), 1.1);
+    pair("true Mercury", call_job(graha_true_mercury), call_job(plain_true_mercury), 1.1);
+    pair("true Jupiter", call_job(graha_true_jupiter), call_job(plain_true_jupiter), 1.1);
+    pair("true Venus", call_job(graha_true_venus), call_job(plain_true_venus), 1.1);
+    pair("true Saturn", call_job(graha_true_saturn), call_job(plain_true_saturn), 1.1);
     pair("tithi", call_job(graha_tithi), call_job(plain_tithi), 1.1);
     pair("nakshatra", call_job(graha_nakshatra), call_job(plain_nakshatra), 1.1);
     pair("yoga", call_job(graha_yoga), call_job(plain_yoga), 1.1);

@@ -39,6 +39,37 @@ static inline uint32_t moon_of(uint32_t edition, uint32_t day) {
     return with(at, x, equation(x, 32400, 538526880000u) / 27);
 }
 
+/* A row at every 15 degrees, in tenths of a degree. */
+static const uint32_t SIGHRA[5][13] = {
+    {0, 58, 117, 174, 228, 279, 325, 365, 393, 400, 368, 249, 0}, {0, 41, 81, 117, 150, 178, 199, 212, 212, 195, 155, 89, 0},
+    {0, 25, 47, 68, 85, 98, 106, 108, 102, 89, 66, 36, 0},        {0, 63, 126, 186, 246, 302, 354, 402, 440, 461, 443, 326, 0},
+    {0, 15, 28, 39, 48, 54, 57, 57, 53, 45, 33, 18, 0}};
+static const uint32_t MANDA[5][7] = {
+    {0, 29, 57, 85, 109, 124, 130}, {0, 12, 21, 28, 33, 35, 36}, {0, 14, 27, 39, 48, 55, 57}, {0, 6, 11, 13, 14, 15, 15}, {0, 19, 40, 60, 77, 89, 93}};
+static const uint32_t APOGEES[5] = {432000, 756000, 648000, 324000, 864000};
+
+static inline uint32_t on_line(const uint32_t *row, uint32_t arc) {
+    uint32_t at = arc / 54000, off = arc % 54000;
+    return off ? (row[at] * (54000 - off) + row[at + 1] * off) / 150 : row[at] * 360;
+}
+
+static inline uint32_t folded(uint32_t x) { return x <= 648000 ? x : CIRCLE - x; }
+static inline uint32_t quarter(uint32_t x) { return folded(x) <= 324000 ? folded(x) : 648000 - folded(x); }
+
+static inline uint32_t planet(int p, uint32_t at, uint32_t first) {
+    uint32_t half = with(at, first, on_line(SIGHRA[p], folded(first)) / 2);
+    uint32_t x = past(APOGEES[p], half), manda = on_line(MANDA[p], quarter(x));
+    uint32_t second = x <= 648000 ? past(first, manda) : (first + manda) % CIRCLE;
+    return with(with(at, x, manda), second, on_line(SIGHRA[p], folded(second)));
+}
+
+static inline uint32_t outer(int p, uint32_t day, uint32_t own) { return planet(p, own, past(sun(day), own)); }
+
+uint32_t plain_true_mars(uint32_t day) { return day > LAST ? 0 : outer(0, day, mean(day, 1105680, 199920, 2616600, 1387)); }
+uint32_t plain_true_mercury(uint32_t day) { return day > LAST ? 0 : planet(1, sun(day), mean(day, 970380, 444420, 1487490, 133)); }
+uint32_t plain_true_jupiter(uint32_t day) { return day > LAST ? 0 : outer(2, day, mean(day, 764160, 94680, 2094, 7)); }
+uint32_t plain_true_venus(uint32_t day) { return day > LAST ? 0 : planet(3, sun(day), mean(day, 828540, 158520, 401760, 181)); }
+uint32_t plain_true_saturn(uint32_t day) { return day > LAST ? 0 : outer(4, day, mean(day, 1027260, 812520, 1565, 13)); }
 uint32_t plain_mean_sun(uint32_t day) { return day > LAST ? 0 : sun(day); }
 uint32_t plain_mean_moon(uint32_t day) { return day > LAST ? 0 : moon(day); }
 uint32_t plain_moon_node(uint32_t day) { return day > LAST ? 0 : mean(day, 99480, 766200, 73861124, 57); }

@@ -1,7 +1,8 @@
 #!/usr/bin/env python3
-"""Recomputes every K, D and p/q of the nine bodies, and the constants of the two equations, from the numbers and formulas
-that sources 002 and 000 print, and compares them with the definitions in the crates' specs/. And holds the thirds and places that
-the sources print to the table's, by what docs/sources.md says of each: that it agrees, or by how much it misses.
+"""Recomputes every K, D and p/q of the nine bodies, the constants of the two equations and the tables of the five planets, from the
+numbers and formulas that sources 002 and 000 print, and compares them with the definitions in the crates' specs/. And holds the thirds,
+largest corrections and places that the sources print to the tables', by what docs/sources.md says of each: that it agrees, or by how
+much it misses.
 
   python3 docs/check_sources.py
 
@@ -14,6 +15,7 @@ from fractions import Fraction as F
 ROOT = pathlib.Path(__file__).resolve().parent.parent
 TABLE = ROOT / "crates/longitudes/specs/Longitudes.antt"
 EQUATIONS = ROOT / "crates/panchanga/specs/TrueLongitudes.antt"
+PLANETS = ROOT / "crates/planets/specs/Tables.antt"
 
 # Source 002. K (kṣepaka) and D (dhruvaka) of its table 1 in degrees, minutes and seconds; the terms of its formula for the
 # motion a day, in degrees; the value that it prints beside the formula, in degrees, minutes, seconds and thirds.
@@ -60,6 +62,23 @@ PLACES_000 = {
     (8, 1521): [((34, 13, 41), 0), ((200, 10, 19), -3), ((314, 11, 16), -2608), ((44, 21, 6), 3), ((299, 55, 13), 0), ((47, 14, 50), 0), ((128, 15, 16), 0), ((95, 41, 36), 0), ((330, 36, 45), 0)],
     (43, 2033): [((115, 9, 59), -1), ((334, 31, 31), 2), ((184, 42, 18), -3485), ((128, 2, 49), 0), ((64, 33, 30), 0), ((197, 7, 48), 1), ((330, 17, 58), 1), ((310, 12, 47), 1), ((8, 14, 4), 2)],
 }
+
+# Source 002's tables 4, 5 and 3 of the five planets: śīghrāṅkas, mandāṅkas and mandocca in degrees.
+PLANETS_002 = [
+    ("Mars", [0, 58, 117, 174, 228, 279, 325, 365, 393, 400, 368, 249, 0], [0, 29, 57, 85, 109, 124, 130], 120),
+    ("Mercury", [0, 41, 81, 117, 150, 178, 199, 212, 212, 195, 155, 89, 0], [0, 12, 21, 28, 33, 35, 36], 210),
+    ("Jupiter", [0, 25, 47, 68, 85, 98, 106, 108, 102, 89, 66, 36, 0], [0, 14, 27, 39, 48, 55, 57], 180),
+    ("Venus", [0, 63, 126, 186, 246, 302, 354, 402, 440, 461, 443, 326, 0], [0, 6, 11, 13, 14, 15, 15], 90),
+    ("Saturn", [0, 15, 28, 39, 48, 54, 57, 57, 53, 45, 33, 18, 0], [0, 19, 40, 60, 77, 89, 93], 240),
+]
+
+# Its tables 6 and 7: the largest śīghraphala with the degrees where it is reached, and the largest mandaphala, where it has one; and by how many
+# seconds each is more than the row's largest entry.
+LARGEST_SIGHRA = [((40, 0), (135, 135), 0), ((21, 12), (105, 120), 0), ((10, 48), (105, 105), 0), ((46, 6), (135, 135), 0), ((5, 42), (90, 105), 0)]
+LARGEST_MANDA = [((13, 36), 2160), ((5, 42), 7560), ((1, 30), -15120), None, ((9, 18), 0)]
+
+# Its section IV: the true places of 28 February 2025, (45, 3699), in degrees and minutes, and by how many minutes each is more than ours.
+PLACES_002 = [((107, 9), 1476), ((355, 21), 1524), ((72, 12), 1353), ((10, 48), 1788), ((350, 42), 1704)]
 
 # Thirds by which a value that 002 prints may miss its own formula; see docs/sources.md.
 THIRDS = 4
@@ -148,10 +167,65 @@ def equations():
             same("the Sun's apogee", found[2], seconds(SUN_APOGEE))
 
 
+def planet_tables():
+    """The rows of the meaning's two tables, and the apogees."""
+    text = PLANETS.read_text(encoding="utf-8")
+    lists = {}
+    for name in ("sighraTable", "mandaTable", "planetApogees"):
+        body = text[text.index(f"{name} =") :].split("\n\n")[0]
+        rows = re.findall(r"((?:\d+ ∷ )+)\[\]", body)
+        lists[name] = [[int(n) for n in re.findall(r"\d+", row)] for row in rows]
+    return lists["sighraTable"], lists["mandaTable"], lists["planetApogees"][0]
+
+
+def on_line(row, arc):
+    """The exact line, rounded down to a second."""
+    at, past = divmod(arc, 54000)
+    rise = F((row[at + 1] - row[at]) * past, 54000) if past else 0
+    return (row[at] + rise) * 360 // 1
+
+
+def true_place(planet, C, A):
+    sighra, manda, apogee = (part[planet] for part in planet_tables())
+    mean = [(K - C * D + F(A * p, q)) // 1 % 1296000 for K, D, p, q in table()]
+    sun, own = mean[0], mean[4 + planet]
+    place, first = (sun, own) if planet in (1, 3) else (own, (sun - own) % 1296000)
+
+    def sign(anomaly):
+        return 1 if anomaly <= 648000 else -1
+
+    def half(anomaly):
+        return min(anomaly, 1296000 - anomaly)
+
+    halved = sign(first) * (on_line(sighra, half(first)) // 2)
+    anomaly = (apogee - place - halved) % 1296000
+    centre = sign(anomaly) * on_line(manda, min(half(anomaly), 648000 - half(anomaly)))
+    second = (first - centre) % 1296000
+    return (place + centre + sign(second) * on_line(sighra, half(second))) % 1296000
+
+
+def planets():
+    sighra, manda, apogees = planet_tables()
+    for planet, (name, sizes, centres, apogee) in enumerate(PLANETS_002):
+        same(f"{name}: śīghra row", sighra[planet], sizes)
+        same(f"{name}: manda row", manda[planet], centres)
+        same(f"{name}: apogee", apogees[planet], seconds((apogee,)))
+        angle, (first, last), more = LARGEST_SIGHRA[planet]
+        reached = [15 * i for i, entry in enumerate(sizes) if entry == max(sizes)]
+        same(f"{name}: seconds that 002's largest śīghraphala is more", seconds(angle) - 360 * max(sizes), more)
+        same(f"{name}: where it is reached", (reached[0], reached[-1]), (first, last))
+        if LARGEST_MANDA[planet]:
+            angle, more = LARGEST_MANDA[planet]
+            same(f"{name}: seconds that 002's largest mandaphala is more", seconds(angle) - 360 * max(centres), more)
+        angle, more = PLACES_002[planet]
+        same(f"{name} on (45, 3699): minutes that 002 has more", (seconds(angle) - true_place(planet, 45, 3699) // 60 * 60) // 60 % 21600, more)
+
+
 rows()
 mercury()
 thirds()
 places()
 equations()
+planets()
 print("the table is the sources'" if not failed else "the table is NOT the sources'")
 sys.exit(failed)

@@ -1,4 +1,4 @@
-/* A small host program: it dates a day, prints its places, dates a Saka lunar date, and looks for the Mondays with the Sun in the first degree. */
+/* A small host program: it dates a day, prints its places, sets the nine arms of a planet table, dates a Saka lunar date, and looks for the Mondays with the Sun in the first degree. */
 #include <stdio.h>
 #include <stdlib.h>
 
@@ -28,6 +28,23 @@ static void print_places(uint32_t day)
            (unsigned)graha_yoga(day), (unsigned)graha_karana(day));
 }
 
+/* The nine arms of a table: where each body stands, in degrees and minutes. */
+static void print_arms(uint32_t day)
+{
+    static const struct {
+        const char *name;
+        uint32_t (*place)(uint32_t day);
+    } ARMS[9] = {
+        {"Sun", graha_true_sun},         {"Moon", graha_true_moon},       {"node", graha_moon_node},
+        {"Mars", graha_true_mars},       {"Mercury", graha_true_mercury}, {"Jupiter", graha_true_jupiter},
+        {"Venus", graha_true_venus},     {"Saturn", graha_true_saturn},   {"apogee", graha_moon_apogee},
+    };
+    for (int arm = 0; arm < 9; arm++) {
+        uint32_t place = ARMS[arm].place(day);
+        printf("  arm %d, %s: %u degrees %u minutes\n", arm + 1, ARMS[arm].name, (unsigned)(place / 3600), (unsigned)(place / 60 % 60));
+    }
+}
+
 /* An entry of the list: four bytes, low byte first. */
 static uint32_t day_at(const uint8_t *list, size_t entry)
 {
@@ -50,6 +67,7 @@ int main(void)
     uint32_t day = graha_date_day(1612, 5, 14);
     print_date(day);
     print_places(day);
+    print_arms(day);
 
     /* The first day of Saka 1555, a Friday. That year had an extra month, which was still to come. */
     result = graha_saka_pending_result(1555, 0, 0, 4, 1);

@@ -88,6 +88,12 @@ uint32_t graha_mean_saturn_thirds(uint32_t day);
 /* A day's true Sun and Moon. */
 uint32_t graha_true_sun(uint32_t day);
 uint32_t graha_true_moon(uint32_t day);
+/* Its true star planets. */
+uint32_t graha_true_mars(uint32_t day);
+uint32_t graha_true_mercury(uint32_t day);
+uint32_t graha_true_jupiter(uint32_t day);
+uint32_t graha_true_venus(uint32_t day);
+uint32_t graha_true_saturn(uint32_t day);
 /* Tithis elapsed, 0 to 29. */
 uint32_t graha_tithi(uint32_t day);
 /* Nakshatra and yoga, 0 to 26. */

@@ -1,7 +1,7 @@
 //! The calls of the two static archives: `host`, the museum's C calls, and `bridge`, a test library
 //! that reaches the search and the look with every condition and edition, the text that `find` prints,
-//! a day's elements in an edition, and a mean place with its left-over and divisor. A number of a
-//! refused call is 0, but with 7.
+//! a day's elements in an edition, a mean place with its left-over and divisor, and the star planets
+//! together. A number of a refused call is 0, but with 7.
 
 #[link(name = "host", kind = "static")]
 unsafe extern "C" {
@@ -62,6 +62,11 @@ unsafe extern "C" {
 
     pub safe fn graha_true_sun(day: u32) -> u32;
     pub safe fn graha_true_moon(day: u32) -> u32;
+    pub safe fn graha_true_mars(day: u32) -> u32;
+    pub safe fn graha_true_mercury(day: u32) -> u32;
+    pub safe fn graha_true_jupiter(day: u32) -> u32;
+    pub safe fn graha_true_venus(day: u32) -> u32;
+    pub safe fn graha_true_saturn(day: u32) -> u32;
     pub safe fn graha_tithi(day: u32) -> u32;
     pub safe fn graha_nakshatra(day: u32) -> u32;
     pub safe fn graha_yoga(day: u32) -> u32;
@@ -106,6 +111,11 @@ unsafe extern "C" {
     pub safe fn bridge_longitude_seconds(body: u32, day: u32) -> u32;
     pub safe fn bridge_longitude_remainder(body: u32, day: u32) -> u32;
     pub safe fn bridge_longitude_divisor(body: u32, day: u32) -> u32;
+
+    /// The true places of the five star planets, together.
+    pub safe fn bridge_planets_result(day: u32) -> u32;
+    /// Planets are 0 Mars to 4 Saturn; a planet above 4 gives 0.
+    pub safe fn bridge_planets_place(day: u32, planet: u32) -> u32;
 
     /// All elements of a day in an edition, together.
     pub safe fn bridge_elements_result(edition: u32, day: u32) -> u32;

@@ -16,12 +16,18 @@ fn main() {
     checks.part("the paper's cases", |checks| {
         runs::worked::run(checks, &almanac)
     });
+    checks.part("the star planets' laws", |checks| {
+        runs::planet_laws::run(checks, &almanac)
+    });
     checks.part("days", |checks| runs::days::run(checks, &almanac));
     checks.part("elements by edition", |checks| {
         runs::elements::run(checks, &almanac)
     });
     checks.part("parts of a second", |checks| {
         runs::longitudes::run(checks, &almanac)
+    });
+    checks.part("star planets", |checks| {
+        runs::planets::run(checks, &almanac)
     });
     checks.part("pairs and steps", runs::pairs::run);
     checks.part("civil dates", |checks| runs::civil::run(checks, &almanac));

@@ -7,6 +7,7 @@ use super::days::{next_weekday, Pair, MONDAY};
 use super::edition::Edition;
 use super::longitudes::longitudes;
 use super::panchanga::Elements;
+use super::planets::true_places;
 use super::refusal::{Answer, NO_SUCH_DATE, OUT_OF_RANGE};
 
 /// All that the rules give a day.
@@ -17,6 +18,7 @@ pub struct Day {
     pub weekday: u32,
     pub mean: [u32; 9],
     pub thirds: [u32; 9],
+    pub planets: [u32; 5],
     first: Elements,
     second: Elements,
 }
@@ -31,6 +33,7 @@ impl Day {
             weekday,
             mean,
             thirds: longitudes.map(|longitude| longitude.thirds),
+            planets: true_places(&mean),
             first: Elements::of(&mean, Edition::First),
             second: Elements::of(&mean, Edition::Second),
         }

@@ -1,4 +1,4 @@
-//! The rules of paper 01, and of paper 02's L2, L4, L8 and L9, each written a second time and by
+//! The rules of paper 01, and of paper 02's L2, L3, L4, L8 and L9, each written a second time and by
 //! another method than the proved crates: exact fractions with one floor, dates by walking the
 //! calendar day by day, and a search that tests every day of its span. Each function cites the
 //! paper's heading that it follows; the page of `find` and what it prints, which the papers leave
@@ -14,6 +14,7 @@ pub mod longitudes;
 pub mod motions;
 pub mod page;
 pub mod panchanga;
+pub mod planets;
 pub mod plate;
 pub mod refusal;
 pub mod saka;

@@ -26,7 +26,7 @@ const MOON_RULE: Rule = Rule {
 const SUN_PART: i128 = 27;
 
 /// "Reduce it to s, from 0 to 324000": the four quarters of the anomaly.
-fn quarter(anomaly: i128) -> i128 {
+pub fn quarter(anomaly: i128) -> i128 {
     if anomaly <= 324_000 {
         anomaly
     } else if anomaly <= 648_000 {

@@ -1,4 +1,5 @@
-//! Every call that takes a day, on all days of the table and on many outside it.
+//! Every call that takes a day, on all days of the table and on many outside it; but the star planets',
+//! which `planets` compares.
 
 use crate::calls::*;
 use crate::checks::Checks;

@@ -17,6 +17,8 @@ pub mod look;
 pub mod page_text;
 pub mod pairs;
 pub mod parted;
+pub mod planet_laws;
+pub mod planets;
 pub mod programs;
 pub mod queries;
 pub mod query_bytes;

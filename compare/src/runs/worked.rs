@@ -200,7 +200,7 @@ fn second_rule(checks: &mut Checks, almanac: &Almanac) {
 }
 
 /// The signed short way from one place to another.
-fn short_way(from: u32, to: u32) -> i64 {
+pub fn short_way(from: u32, to: u32) -> i64 {
     let forwards = (i64::from(to) - i64::from(from)).rem_euclid(1_296_000);
     if forwards < 648_000 {
         forwards

@@ -7,6 +7,7 @@ use Prim.Native.Nat.{ℕ}
 use Rattle.days.specs.declared.NumberAnswer.{NumberAnswer}
 use Rattle.longitudes.specs.declared.MeanLongitude.{MeanLongitude}
 use Rattle.panchanga.specs.declared.Panchanga.{Panchanga}
+use Rattle.planets.specs.declared.TrueLongitudes.{TrueLongitudes}
 use Rattle.search.specs.declared.Found.{Found}
 use Rattle.bridge.specs.declared.looks.Look.{Look}
 use Rattle.bridge.specs.Answers.{bridgeLength, bridgeLooked, bridgeExamined}
@@ -38,3 +39,7 @@ pub record BridgeElements (meant found : Panchanga) : Type 0 where
 pub record BridgeElement (meant found : NumberAnswer) : Type 0 where
   pub refusal : found .refusal ≡ meant .refusal
   pub number : found .number ≡ meant .number
+
+pub record BridgePlanets (meant found : TrueLongitudes) : Type 0 where
+  pub refusal : found .refusal ≡ meant .refusal
+  pub longitudes : found .longitudes ≡ meant .longitudes

@@ -2,6 +2,7 @@
 // They are the first and the last day; for weekdays, tithi, nakshatra and yoga: given (0 no, any other number yes) and set or value; for each body its first arc: given, start and width; the edition; and for each body its second arc.
 mod bodies;
 mod elements;
+mod five;
 mod looks;
 mod pieces;
 

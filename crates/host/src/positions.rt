@@ -1,13 +1,15 @@
-// The numbers of a day, by its number: the weekday, mean longitudes in seconds of arc and the thirds behind them, true longitudes, and the panchanga elements; these are of the first edition. 0 where there is no such day.
+// The numbers of a day, by its number: the weekday, mean longitudes in seconds of arc and the thirds behind them, true longitudes, and the panchanga elements; the Moon and what hangs on it are of the first edition. 0 where there is no such day.
 use days::Day;
 use longitudes::Body;
 use panchanga::FIRST_EDITION;
+use planets::Planet;
 ghost use mathlib.Core.Path.{_≡_};
 ghost use Rattle.days.specs.Days.{pairAt, weekdayAt};
 ghost use Rattle.longitudes.specs.Longitudes.{longitudeAt, thirdsAt};
 ghost use Rattle.longitudes.specs.Answers.{bodyNumber};
 ghost use Rattle.panchanga.specs.TrueLongitudes.{firstEdition};
 ghost use Rattle.panchanga.specs.OnDays.{trueSunAt, trueMoonAt, tithiAt, nakshatraAt, yogaAt, karanaAt};
+ghost use Rattle.planets.specs.OnDays.{planetNumber, truePlanetAt};
 ghost use Rattle.host.specs.Calls.{onNumber};
 
 // Past the last day it is out of range, and whatever takes it refuses it.
@@ -207,4 +209,45 @@ pub extern "C" fn graha_karana(day: u32) -> u32
     ensures { λ r. ⌜ r ≡ onNumber (karanaAt firstEdition) day ⌝ }
 {
     panchanga::karana(FIRST_EDITION, pair(day)).number
+}
+
+fn true_planet(planet: Planet, day: u32) -> u32
+    ensures { λ r. ⌜ r ≡ onNumber (truePlanetAt (planetNumber planet)) day ⌝ }
+{
+    planets::true_longitude(planet, pair(day)).number
+}
+
+#[no_mangle]
+pub extern "C" fn graha_true_mars(day: u32) -> u32
+    ensures { λ r. ⌜ r ≡ onNumber (truePlanetAt 0) day ⌝ }
+{
+    true_planet(Planet::Mars, day)
+}
+
+#[no_mangle]
+pub extern "C" fn graha_true_mercury(day: u32) -> u32
+    ensures { λ r. ⌜ r ≡ onNumber (truePlanetAt 1) day ⌝ }
+{
+    true_planet(Planet::Mercury, day)
+}
+
+#[no_mangle]
+pub extern "C" fn graha_true_jupiter(day: u32) -> u32
+    ensures { λ r. ⌜ r ≡ onNumber (truePlanetAt 2) day ⌝ }
+{
+    true_planet(Planet::Jupiter, day)
+}
+
+#[no_mangle]
+pub extern "C" fn graha_true_venus(day: u32) -> u32
+    ensures { λ r. ⌜ r ≡ onNumber (truePlanetAt 3) day ⌝ }
+{
+    true_planet(Planet::Venus, day)
+}
+
+#[no_mangle]
+pub extern "C" fn graha_true_saturn(day: u32) -> u32
+    ensures { λ r. ⌜ r ≡ onNumber (truePlanetAt 4) day ⌝ }
+{
+    true_planet(Planet::Saturn, day)
 }
