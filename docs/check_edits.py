@@ -1,13 +1,15 @@
 #!/usr/bin/env python3
-"""Holds the must-fail edits to what they are for. An edit may hold several wrong answers, one for each of several functions; that the
+"""Holds the must-fail edits to what they are for. An edit may hold several wrong answers, each under a comment of its own; that the
 crate is refused says of one of them that it is, so the prover's log is read for each:
 
 - every function that the edit changes is refused, by a fact that fails in that function's own proof (or by `search`, where it has none);
+- the prover says of each fact of a proof whether it fails, so that a function may be given several wrong answers at once: then the comment of each
+  ends with the name of a fact in parentheses, which fails and is no other's (so too for several changes of meanings);
 - where the edit changes what a function promises too, or brings a new one, it may be proved: then a fact fails in a function that names it, or in one
   that is called beside it;
 - where it changes a constant (or a struct), a fact fails in the proof of a function that names it or a constant made of it; where a meaning or a law, in some proof.
 
-A proof that no longer fits the code (a name that is not there, a step that hangs on a refused one) is no fact. docs/contracts.md must
+A proof that no longer fits the code (a name that is not there, a place of the code taken for another, a step that hangs on a refused one) is no fact. docs/contracts.md must
 name every edit, and no edit that is not there.
 
   python3 docs/check_edits.py    after `rt ci` or `rt must-fail`, whose logs it reads: prints a line for each complaint and then the counts,
@@ -19,11 +21,11 @@ import sys
 ROOT = pathlib.Path(__file__).resolve().parent.parent
 PAGE = ROOT / "docs/contracts.md"
 ITEM = re.compile(r'( *)(?:pub )?(?:extern "C" )?(fn|const|struct|impl|mod) (\w+)')
-ERROR = re.compile(r"\S*/(proofs/\S+\.antt):\d+:\d+: error: (.*)")
+ERROR = re.compile(r"\S*/(proofs/\S+\.antt):\d+:\d+: error: (?:`(\S+)`: )?(.*)")
 FUNCTION = re.compile(r"fn (\S+): (proved|not proved|no proof)(.*)")
 CLAUSE = re.compile(r"(?:requires|ensures) \{.*?⌝ \}", re.S)
 # What the prover says where a proof no longer fits the code.
-UNFIT = re.compile(r"can be named from here|has no field|was not admitted|not in scope|is no module|no module is found")
+UNFIT = re.compile(r"can be named from here|has no field|was not admitted|not in scope|is no module|no module is found|differ (only )?where one has `\S+\.Lts\.[A-Z]")
 NAME = re.compile(r"`(?:(\w+)/must-fail/)?([a-z]\w*_\w+)(\.edit)?`")
 
 
@@ -61,6 +63,27 @@ def changed(before, after):
     return [name for name in sorted({*before, *after}) if before.get(name) != after.get(name)]
 
 
+def answers(whole, edit):
+    """The wrong answers of an edit, each under its comment: what it changes, functions, constants and structs by their names and a meaning or a
+    law as `meaning`, and the fact that the comment names at its end. The changes are made in their order, as `rt` makes them."""
+    texts = {path: text for part in ("src", "specs", "proofs") for path, text in files(whole, part).items()}
+    found, path, old, above = [], "", "", False
+    for line in edit.read_text(encoding="utf-8").splitlines():
+        if not found or line.startswith("#") and not above:
+            found.append([set(), ""])
+        above = line.startswith("#")
+        if above:
+            found[-1][1] = (re.search(r"\(([^\s()]+)\)$", line) or ["", ""])[1]
+        elif line.startswith("file: "):
+            path = line[6:]
+        elif line.startswith("old: "):
+            old = line[5:]
+        elif line.startswith("new:"):
+            before, texts[path] = texts[path], texts[path].replace(old, line[4:].removeprefix(" "))
+            found[-1][0].update(changed(*(items(whole.name, {path: text}) for text in (before, texts[path]))) if path.startswith("src/") else ["meaning"])
+    return found
+
+
 def made_of(name, texts):
     """The name of a constant, and of each constant that is made of it."""
     names = [name]
@@ -73,15 +96,25 @@ def proof_of(function):
     return "proofs/" + "/".join(function.split("::")[1:]) + "/Proof.antt"
 
 
+def fails(log, said):
+    """Each fact that fails: the proof's path and the fact's name."""
+    found = [(error[1], error[2]) for error in map(ERROR.fullmatch, log) if error and not UNFIT.search(error[3])]
+    for line in said:
+        _, search, left = line[3].partition("`search` does not close")
+        if line[2] == "no proof" and search:
+            found += [(proof_of(line[1]), fact) for fact in re.findall(r"`([^\s`:]+)`", left)]
+    return found
+
+
 def complaints(crate, label):
     """Each complaint on an edit, and how many wrong answers it holds."""
     whole, edited = ROOT / "crates" / crate, ROOT / "target/must-fail" / crate / label
     if not (edited / ".log").is_file():
         return [f"there is no target/must-fail/{crate}/{label}/.log"], 0
     log = (edited / ".log").read_text(encoding="utf-8", errors="replace").splitlines()
-    facts = {error[1] for error in map(ERROR.fullmatch, log) if error and not UNFIT.search(error[2])}
     said = {line[1]: line for line in map(FUNCTION.fullmatch, log) if line}
-    facts |= {proof_of(name) for name, line in said.items() if line[2] == "no proof" and "`search` does not close" in line[3]}
+    failing = fails(log, said.values())
+    facts = {path for path, _ in failing}
     before, after = (items(crate, files(folder, "src")) for folder in (whole, edited))
     wrong = changed(before, after)
     own = {name: proof_of(name) for name in {*before, *after} if name.startswith(crate + "::")}
@@ -107,11 +140,20 @@ def complaints(crate, label):
         if name not in reached and not called:
             found.append(f"no fact fails in a function that names {name} or is called beside it")
     meant = any(changed(files(whole, part), files(edited, part)) for part in ("specs", "proofs"))
-    if meant and not facts - {own[name] for name in wrong if name in own}:
+    altered = {own[name] for name in wrong if name in own}
+    if meant and not facts - altered:
         found.append("no fact fails in a proof of what stands as it was")
+    count, given = 0, answers(whole, whole / "must-fail" / f"{label}.edit")
+    for name in [name for name in wrong if name not in apart] + ["meaning"] * meant:
+        claimed = [fact for changes, fact in given if name in changes]
+        shown = {fact for path, fact in failing if path == own.get(name) or name == "meaning" and path not in altered}
+        due = claimed if len(claimed) > 1 else [fact for fact in claimed if fact]
+        if len({*due}) < len(due) or not shown.issuperset(due):
+            found.append(f"not every one of the {len(claimed)} answers of {name} names a fact of its own that fails: {', '.join(sorted(shown))}")
+        count += len(claimed)
     if "" in wrong or not (wrong or meant):
         found.append("it changes something else than functions, constants and structs" if "" in wrong else "it changes nothing")
-    return found, len(wrong) - len(apart) + meant
+    return found, count
 
 
 def named(page, edits, known):
@@ -138,13 +180,13 @@ known = {path.name for path in (ROOT / "crates").iterdir()}
 for path in ROOT.glob("crates/*/src/**/*.rt"):
     known.update(re.findall(r"\w+", path.read_text(encoding="utf-8")))
 in_page, faults = named(PAGE.read_text(encoding="utf-8"), edits, known)
-answers = 0
+total = 0
 for crate, label in sorted(edits):
     found, count = complaints(crate, label)
-    answers += count
+    total += count
     faults += [f"{crate}/must-fail/{label}.edit: {fault}" for fault in found]
 faults += [f"{crate}/must-fail/{label}.edit: docs/contracts.md does not name it" for crate, label in sorted(edits - in_page)]
 for fault in faults:
     print(fault)
-print(f"{len(edits)} edits, {answers} wrong answers, {len(faults)} complaints")
+print(f"{len(edits)} edits, {total} wrong answers, {len(faults)} complaints")
 sys.exit(bool(faults) or not edits)
