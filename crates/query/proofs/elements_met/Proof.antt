@@ -1,12 +1,13 @@
 -- `elements_met` meets its contract: no edition decides, then a pair out of range; with neither tithi nor yoga asked for the nakshatra, else the elements in turn.
 use borrow.Author.Needs.{needs}
 use borrow.Author.Tests.{not-true, not-false}
-use mathlib.Core.Bool.{true}
+use mathlib.Core.Bool.{true, and-false}
 use mathlib.Core.Path.{_≡_, sym, ap, _∙_}
 use Rattle.days.specs.Days.{inRange}
 use Rattle.panchanga.specs.TrueLongitudes.{isEdition}
+use Rattle.panchanga.specs.OnDays.{tithiAt, nakshatraAt, yogaAt}
 use Rattle.query.specs.Conditions.{meets}
-use Rattle.query.proofs.Conditions.{elements-on, only-nakshatra, tithi-not-met, nakshatra-not-met, yoga-decides, elements-tested}
+use Rattle.query.proofs.Conditions.{ElementsOn, elements-on, only-nakshatra, tithi-not-met, nakshatra-not-met, yoga-decides, elements-tested}
 use Rattle.query.proofs.elements_met.Statement.{statement}
 use Rattle.query.proofs.elements_met.Tie as tie
 
@@ -23,7 +24,7 @@ in-range-requires : tie.Need-in-range-requires
 in-range-requires c κs = search needs
 
 returns-2 : tie.Need-returns-2
-returns-2 c = rw (edition (c .before .before), sym (c .before .in-range .ensures) ∙ not-true _ (c .if2 .taken))
+returns-2 c = rw (sym (c .before .in-range .ensures) ∙ not-true _ (c .if2 .taken)) (sym (and-false (isEdition (c .before .before .before .before .args .edition))))
 
 -- a day in range and an edition
 known : (c : tie.Else2) → (inRange (c .before .before .before .before .args .day) ≡ true) × (isEdition (c .before .before .before .before .args .edition) ≡ true)
@@ -38,42 +39,41 @@ returns-3 c = elements-tested _ _ _ _ _ (known (c .before .before .before .befor
 of-day-requires : tie.Need-of-day-requires
 of-day-requires c κs = search needs
 
+-- the elements found are the day's, and each test is of one of them: a fact each, so that a wrong answer to one is refused by itself
+found-on : (c : tie.After-of-day) → ElementsOn (c .before .before .before .before .before .before .before .args .edition) (c .before .before .before .before .before .before .before .args .day) (c .of-day .result)
+found-on c = elements-on _ _ _ (known (c .before .before .before)) (c .of-day .ensures)
+
 admits-requires : tie.Need-admits-requires
 admits-requires c κs = search needs
 
+tithi-is : (c : tie.After-admits) → let a = c .before .before .before .before .before .before .before .before .args in meets (a .tithi) (tithiAt (a .edition) (a .day)) ≡ c .admits .result
+tithi-is c = ap (meets _) (sym (found-on (c .before) .tithi)) ∙ sym (c .admits .ensures)
+
 returns-4 : tie.Need-returns-4
 returns-4 c =
-    let k = known (c .before .before .before .before .before) in
-    let a = c .before .before .before .before .before .before .before .before .before .args in
-    let e = elements-on _ _ _ k (c .before .before .of-day .ensures) in
-    elements-tested _ _ _ _ _ k (tithi-not-met _ _ _ _ _ (ap (meets (a .tithi)) (sym (e .tithi)) ∙ sym (c .before .admits .ensures) ∙ not-true _ (c .if5 .taken)))
+    elements-tested _ _ _ _ _ (known (c .before .before .before .before .before)) (tithi-not-met _ _ _ _ _ (tithi-is (c .before) ∙ not-true _ (c .if5 .taken)))
 
 admits-requires-2 : tie.Need-admits-requires-2
 admits-requires-2 c κs = search needs
 
+nakshatra-is : (c : tie.After-admits2) → let a = c .before .before .before .before .before .before .before .before .before .before .args in meets (a .nakshatra) (nakshatraAt (a .edition) (a .day)) ≡ c .admits2 .result
+nakshatra-is c = ap (meets _) (sym (found-on (c .before .before .before) .nakshatra)) ∙ sym (c .admits2 .ensures)
+
 returns-5 : tie.Need-returns-5
 returns-5 c =
-    let k = known (c .before .before .before .before .before .before .before) in
-    let a = c .before .before .before .before .before .before .before .before .before .before .before .args in
-    let e = elements-on _ _ _ k (c .before .before .before .before .of-day .ensures) in
-    elements-tested _ _ _ _ _ k
-    (nakshatra-not-met _ _ _ _ _
-    (ap (meets (a .tithi)) (sym (e .tithi)) ∙ sym (c .before .before .before .admits .ensures) ∙ not-false _ (c .before .before .if5 .left))
-    (ap (meets (a .nakshatra)) (sym (e .nakshatra)) ∙ sym (c .before .admits2 .ensures) ∙ not-true _ (c .if6 .taken)))
+    elements-tested _ _ _ _ _ (known (c .before .before .before .before .before .before .before))
+    (nakshatra-not-met _ _ _ _ _ (tithi-is (c .before .before .before) ∙ not-false _ (c .before .before .if5 .left)) (nakshatra-is (c .before) ∙ not-true _ (c .if6 .taken)))
 
 admits-requires-3 : tie.Need-admits-requires-3
 admits-requires-3 c κs = search needs
 
+yoga-is : (c : tie.After-admits3) → let a = c .before .before .before .before .before .before .before .before .before .before .before .before .args in c .admits3 .result ≡ meets (a .yoga) (yogaAt (a .edition) (a .day))
+yoga-is c = c .admits3 .ensures ∙ ap (meets _) (found-on (c .before .before .before .before .before) .yoga)
+
 returns-6 : tie.Need-returns-6
 returns-6 c =
-    let k = known (c .before .before .before .before .before .before .before .before) in
-    let a = c .before .before .before .before .before .before .before .before .before .before .before .before .args in
-    let e = elements-on _ _ _ k (c .before .before .before .before .before .of-day .ensures) in
-    elements-tested _ _ _ _ _ k
-    (yoga-decides _ _ _ _ _ _
-    (ap (meets (a .tithi)) (sym (e .tithi)) ∙ sym (c .before .before .before .before .admits .ensures) ∙ not-false _ (c .before .before .before .if5 .left))
-    (ap (meets (a .nakshatra)) (sym (e .nakshatra)) ∙ sym (c .before .before .admits2 .ensures) ∙ not-false _ (c .before .if6 .left))
-    (c .admits3 .ensures ∙ ap (meets (a .yoga)) (e .yoga)))
+    elements-tested _ _ _ _ _ (known (c .before .before .before .before .before .before .before .before))
+    (yoga-decides _ _ _ _ _ _ (tithi-is (c .before .before .before .before) ∙ not-false _ (c .before .before .before .if5 .left)) (nakshatra-is (c .before .before) ∙ not-false _ (c .before .if6 .left)) (yoga-is c))
 
 pub elements-met-spec : {M : Type 1} → statement M
 elements-met-spec =
