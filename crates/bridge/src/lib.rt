@@ -5,6 +5,7 @@ mod elements;
 mod five;
 mod looks;
 mod pieces;
+mod rows;
 
 use days::Day;
 use days::refusal;

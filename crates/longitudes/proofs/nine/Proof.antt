@@ -15,7 +15,7 @@ use Rattle.longitudes.proofs.nine.Statement.{statement}
 use Rattle.longitudes.proofs.nine.Tie as tie
 
 abbrev Inv-loop : tie.InvT-loop
-Inv-loop day longitudes₀ thirds₀ i₀ longitudes thirds i = (i ≤ 9) × (Filled longitudes (longitudesAt day) i × Filled thirds (nineThirdsAt day) i)
+Inv-loop day longitudes₀ thirds₀ i₀ longitudes thirds i = (i ≤ 9) × (Filled 0 9 longitudes (longitudesAt day) i × Filled 0 9 thirds (nineThirdsAt day) i)
 
 abbrev μ-loop : tie.MeasureT-loop
 μ-loop day longitudes₀ thirds₀ i₀ longitudes thirds i = 9 - i
@@ -53,14 +53,14 @@ loop-again c =
     let l = c .before .before .before .loop in
     let seconds : c .before .longitude .result .seconds ≡ getD (longitudesAt d) (l .i) 0 = ap (λ (a : MeanLongitude). a .seconds) (c .before .longitude .ensures) ∙ sym (nine-at (l .i) d (omega arith)) in
     let thirds : c .thirds-of .result ≡ getD (nineThirdsAt d) (l .i) 0 = c .thirds-of .ensures ∙ thirds-found _ _ (c .before .longitude .ensures) ∙ sym (thirds-nine-at (l .i) d (omega arith)) in
-    (omega arith, (filled-more _ _ _ _ (l .inv .1 .0) (omega arith) seconds, filled-more _ _ _ _ (l .inv .1 .1) (omega arith) thirds))
+    (omega arith, (filled-more _ _ _ _ _ (l .inv .1 .0) _ (omega arith) seconds, filled-more _ _ _ _ _ (l .inv .1 .1) _ (omega arith) thirds))
 
 returns : tie.Need-returns Inv-loop μ-loop
 unfolding longitudesOf
 returns c =
     let d = c .before .before .args .day in
     let l = c .before .loop in
-    rw (c .before .before .pre, filled-whole _ _ _ (l .inv .1 .0) (omega arith) (nine-long d), filled-whole _ _ _ (l .inv .1 .1) (omega arith) (thirds-long d))
+    rw (c .before .before .pre, filled-whole _ _ _ _ _ (l .inv .1 .0) (omega arith) (nine-long d), filled-whole _ _ _ _ _ (l .inv .1 .1) (omega arith) (thirds-long d))
 
 pub nine-spec : {M : Type 1} → statement M
 nine-spec =
