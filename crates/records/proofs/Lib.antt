@@ -1,3 +1,4 @@
-pub mod Turns
+pub mod Laws
+mod Turns
 mod Answers
 mod Thirty

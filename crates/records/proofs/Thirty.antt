@@ -11,31 +11,35 @@ use Rattle.days.specs.Days.{lastDay}
 use Rattle.panchanga.specs.TrueLongitudes.{isEdition}
 use Rattle.records.specs.declared.DayRecord.{DayRecord}
 use Rattle.records.specs.declared.Month.{Month}
-use Rattle.records.specs.Records.{recordOn, unfilledOn, noRecord, allDays, filledAfter, daysFrom, noMonth, monthOf}
+use Rattle.records.specs.Records.{recordOn, unfilledOn, allDays, filledAfter, daysFrom, noMonth, monthOf}
 use Rattle.records.proofs.Answers.{filling, fill-given}
 
-days-long : (n m : ℕ) → length (map unfilledOn (daysFrom n m)) ≡ m
-unfolding daysFrom
-days-long n zero = refl
-days-long n (suc m) = ap suc (days-long (suc n) m)
+module _ {A : Type 0} (f : ℕ → A) where
+  days-long : (n m : ℕ) → length (map f (daysFrom n m)) ≡ m
+  unfolding daysFrom
+  days-long n zero = refl
+  days-long n (suc m) = ap suc (days-long (suc n) m)
 
-days-at : (n m k : ℕ) → k < m → getD (map unfilledOn (daysFrom n m)) k noRecord ≡ unfilledOn (n + k)
-unfolding daysFrom
-days-at n zero k h = absurd (omega arith)
-days-at n (suc m) zero h = ap unfilledOn (omega arith)
-days-at n (suc m) (suc k) h = days-at (suc n) m k (omega arith) ∙ ap unfilledOn (omega arith)
+  days-at : (n m k : ℕ) (d : A) → k < m → getD (map f (daysFrom n m)) k d ≡ f (n + k)
+  unfolding daysFrom
+  days-at n zero k d h = absurd (omega arith)
+  days-at n (suc m) zero d h = ap f (omega arith)
+  days-at n (suc m) (suc k) d h = days-at (suc n) m k d (omega arith) ∙ ap f (omega arith)
 
-pub thirty-long : (n : ℕ) → length (map unfilledOn (daysFrom n 30)) ≡ 30
-thirty-long n = days-long n 30
+  pub thirty-long : (n : ℕ) → length (map f (daysFrom n 30)) ≡ 30
+  thirty-long n = days-long n 30
 
-pub thirty-at : (n k : ℕ) → k < 30 → getD (map unfilledOn (daysFrom n 30)) k noRecord ≡ unfilledOn (n + k)
-thirty-at n k h = days-at n 30 k h
+  pub thirty-at : (n k : ℕ) (d : A) → k < 30 → getD (map f (daysFrom n 30)) k d ≡ f (n + k)
+  thirty-at n k d h = days-at n 30 k d h
 
 -- the days from n on are in range where the last of them is
 days-in : (n m : ℕ) → n + m ≤ suc lastDay → allDays (map unfilledOn (daysFrom n m)) ≡ true
 unfolding daysFrom allDays
 days-in n zero h = refl
 days-in n (suc m) h = rw (le-leb n lastDay (omega arith), days-in (suc n) m (omega arith))
+
+pub thirty-in : (n : ℕ) → n + 29 ≤ lastDay → allDays (map unfilledOn (daysFrom n 30)) ≡ true
+thirty-in n h = days-in n 30 (omega arith)
 
 filled-days : (e : ℕ) (ns : List ℕ) → map (filling e) (map unfilledOn ns) ≡ map (recordOn e) ns
 filled-days e [] = refl
@@ -57,4 +61,4 @@ module _ (e n : ℕ) where
 
     -- filled together they are the month's
     pub thirty-filled : filledAfter e (map unfilledOn (daysFrom n 30)) ≡ map (recordOn e) (daysFrom n 30)
-    thirty-filled = sym (fill-given e _ b (days-in n 30 (omega arith)) .1) ∙ filled-days e (daysFrom n 30)
+    thirty-filled = sym (fill-given e _ b (thirty-in n h) .1) ∙ filled-days e (daysFrom n 30)

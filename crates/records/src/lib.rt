@@ -181,7 +181,7 @@ fn thirty_from(first: u32) -> [DayRecord; MONTH]
     records
 }
 
-fn no_month(refusal: u32) -> Month
+pub fn no_month(refusal: u32) -> Month
     ensures { λ r. ⌜ r ≡ noMonth refusal ⌝ }
 {
     let records = [unfilled(0); MONTH];

@@ -10,7 +10,7 @@ use borrow.Author.Tests.{le-leb, lt-leb, eq-eqb, ne-eqb, leb-true, eqb-false}
 use Rattle.days.specs.declared.NumberAnswer.{NumberAnswer}
 use Rattle.days.specs.Refusals.{accepted, outOfRange, badInput}
 use Rattle.days.specs.Days.{lastDay, theNumber, noNumber}
-use Rattle.text.specs.Decimal.{numberRead}
+use Rattle.text.specs.Decimal.{isNumber, numberRead}
 use Rattle.text.specs.Lines.{newline}
 use Rattle.text.specs.Inputs.{isLine, inputRead, dayInput}
 
@@ -68,3 +68,18 @@ day-read-low s a e r = go (eqb (inputRead s .refusal) accepted) (leb (inputRead 
     go true true et eu k f = rw f (leb-true _ _ eu)
     go true false et eu k f = absurd (omega arith)
     go false u et eu k f = absurd (eqb-false _ _ et k)
+
+-- a refusal of an input is 2 or 3
+pub refusal-low : (s : List ℕ) → dayInput s .refusal ≤ 3
+unfolding dayInput inputRead numberRead
+refusal-low s = of-day (inputRead s) (eqb (inputRead s .refusal) accepted) (leb (inputRead s .number) lastDay) (of-input (isLine s) (isNumber (take (length s - 1) s)) _)
+  where
+    of-input : (line number : Bool) (n : ℕ) → cond {A = NumberAnswer} line (cond {A = NumberAnswer} number (theNumber n) (noNumber badInput)) (noNumber badInput) .refusal ≤ 3
+    of-input true true n = omega arith
+    of-input true false n = omega arith
+    of-input false number n = omega arith
+
+    of-day : (read : NumberAnswer) (accepts low : Bool) → read .refusal ≤ 3 → cond {A = NumberAnswer} accepts (cond {A = NumberAnswer} low (theNumber (read .number)) (noNumber outOfRange)) read .refusal ≤ 3
+    of-day read true true h = omega arith
+    of-day read true false h = omega arith
+    of-day read false low h = h

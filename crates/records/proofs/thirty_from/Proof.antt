@@ -48,10 +48,10 @@ loop-less c = search needs
 loop-again : tie.Need-loop-again Inv-loop μ-loop
 loop-again c =
     let l = c .before .before .loop in
-    (omega arith, filled-more _ _ _ _ _ (l .inv .1) _ (omega arith) (c .unfilled2 .ensures ∙ sym (thirty-at _ (l .i) (omega arith))))
+    (omega arith, filled-more _ _ _ _ _ (l .inv .1) _ (omega arith) (c .unfilled2 .ensures ∙ sym (thirty-at unfilledOn _ (l .i) noRecord (omega arith))))
 
 returns : tie.Need-returns Inv-loop μ-loop
-returns c = filled-whole _ _ _ _ _ (c .before .loop .inv .1) (omega arith) (thirty-long _)
+returns c = filled-whole _ _ _ _ _ (c .before .loop .inv .1) (omega arith) (thirty-long unfilledOn _)
 
 pub thirty-from-spec : {M : Type 1} → statement M
 thirty-from-spec =
