@@ -93,12 +93,12 @@ fn filled(edition: u32, number: u32) -> DayRecord
 }
 
 // A record with its day alone.
-fn unfilled(number: u32) -> DayRecord
-    ensures { λ r. ⌜ r ≡ unfilledOn number ⌝ }
+fn unfilled(day: u32) -> DayRecord
+    ensures { λ r. ⌜ r ≡ unfilledOn day ⌝ }
 {
     let zeros = [0u32; BODIES];
     DayRecord {
-        day: number,
+        day,
         weekday: 0,
         longitudes: zeros,
         sun: 0,
