@@ -1,7 +1,9 @@
 //! The calls of the two static archives: `host`, the museum's C calls, and `bridge`, a test library
 //! that reaches the search and the look with every condition and edition, the text that `find` prints,
-//! a day's elements in an edition, a mean place with its left-over and divisor, and the star planets
-//! together. A number of a refused call is 0, but with 7.
+//! a day's elements in an edition, a mean place with its left-over and divisor, the star planets
+//! together, and rows of records. A number of a refused call is 0, but with 7.
+
+use crate::reference::records::Record;
 
 #[link(name = "host", kind = "static")]
 unsafe extern "C" {
@@ -128,6 +130,9 @@ unsafe extern "C" {
     /// One alone: 0 true Moon, 1 tithi, 2 nakshatra, 3 yoga, 4 and above karana.
     pub safe fn bridge_element_result(which: u32, edition: u32, day: u32) -> u32;
     pub safe fn bridge_element_number(which: u32, edition: u32, day: u32) -> u32;
+
+    /// The row is `rows_len` records from `rows`, each with its day, lent for the call.
+    pub fn bridge_fill_records(edition: u32, rows: *mut Record, rows_len: usize) -> u32;
 
     pub fn bridge_examine_result(query: *const u8, query_len: usize, day: u32) -> u32;
     pub fn bridge_examine_matches(query: *const u8, query_len: usize, day: u32) -> u32;

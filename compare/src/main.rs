@@ -29,6 +29,9 @@ fn main() {
     checks.part("star planets", |checks| {
         runs::planets::run(checks, &almanac)
     });
+    checks.part("rows of records", |checks| {
+        runs::records::run(checks, &almanac)
+    });
     checks.part("pairs and steps", runs::pairs::run);
     checks.part("civil dates", |checks| runs::civil::run(checks, &almanac));
     checks.part("Saka dates", runs::saka::run);
@@ -57,6 +60,7 @@ fn main() {
     checks.part("engravings", |checks| {
         runs::engraving::run(checks, &almanac)
     });
+    checks.part("months", |checks| runs::month::run(checks, &almanac));
     checks.part("pages", |checks| runs::find::run(checks, &almanac));
     println!("compare: {} checks, 0 differences", checks.total());
 }

@@ -1,8 +1,9 @@
-//! The rules of paper 01, and of paper 02's L2, L3, L4, L8 and L9, each written a second time and by
-//! another method than the proved crates: exact fractions with one floor, dates by walking the
+//! The rules of paper 01, and of paper 02's L1, L2, L3, L4, L8 and L9, each written a second time and
+//! by another method than the proved crates: exact fractions with one floor, dates by walking the
 //! calendar day by day, and a search that tests every day of its span. Each function cites the
 //! paper's heading that it follows; the page of `find` and what it prints, which the papers leave
-//! open, are described in `page` and `catalogue`, and what `engraving` prints in `plate`.
+//! open, are described in `page` and `catalogue`, what `engraving` prints in `plate`, and what `month`
+//! prints in `month`.
 
 pub mod almanac;
 pub mod catalogue;
@@ -11,11 +12,13 @@ pub mod days;
 pub mod edition;
 pub mod exact;
 pub mod longitudes;
+pub mod month;
 pub mod motions;
 pub mod page;
 pub mod panchanga;
 pub mod planets;
 pub mod plate;
+pub mod records;
 pub mod refusal;
 pub mod saka;
 pub mod search;

@@ -1,5 +1,5 @@
-//! The programs that read a day's number, the day sheet and the engraving, run on many inputs; what
-//! they print is compared byte for byte.
+//! The programs that read a day's number, the day sheet, the engraving and the month, run on many
+//! inputs; what they print is compared byte for byte.
 
 use crate::checks::Checks;
 use crate::random::Random;
@@ -20,7 +20,7 @@ impl Program {
         let expected = (self.printed)(almanac, &input);
         let input = || format!("{}, in {} pieces", shown(&input), pieces.len());
         let written = programs::run(checks, self.path, input, pieces);
-        checks.same(self.path, input, expected, written.output);
+        checks.same_lines(self.path, input, &expected, &written.output);
         checks.same("its standard error", input, String::new(), written.error);
     }
 

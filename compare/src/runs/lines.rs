@@ -16,22 +16,10 @@ use crate::reference::refusal::{Answer, LIST_TOO_SHORT, NO_SUCH_EDITION, OUT_OF_
 use super::lent::Lent;
 use super::queries::random_query;
 use super::query_bytes::numbers;
-use super::{EDITIONS, NO_EDITIONS, WIDTH_EDGES};
+use super::{EDITIONS, NO_DAYS, NO_EDITIONS, WIDTH_EDGES};
 
 /// The longest buffer of those that are tried one by one.
 const MOST_ROOM: usize = 700;
-
-/// Numbers that are no days; the low bytes of some are those of a day.
-const NO_DAYS: [u32; 8] = [
-    LAST_DAY + 1,
-    LAST_DAY + 2,
-    0x0007_0000,
-    0x0100_0000,
-    0xFF00_0005,
-    1 << 31,
-    u32::MAX - 1,
-    u32::MAX,
-];
 
 /// Numbers of entries that no list here has; four bytes each, some of them wrap to a sound place.
 const FAR_ENTRIES: [u32; 8] = [

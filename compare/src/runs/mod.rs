@@ -14,6 +14,7 @@ pub mod lent;
 pub mod lines;
 pub mod longitudes;
 pub mod look;
+pub mod month;
 pub mod page_text;
 pub mod pairs;
 pub mod parted;
@@ -22,10 +23,13 @@ pub mod planets;
 pub mod programs;
 pub mod queries;
 pub mod query_bytes;
+pub mod records;
 pub mod saka;
 pub mod searches;
 pub mod smudged;
 pub mod worked;
+
+use crate::reference::days::LAST_DAY;
 
 /// The editions that there are.
 pub const EDITIONS: [u32; 2] = [1, 2];
@@ -43,6 +47,18 @@ pub const NO_EDITIONS: [u32; 11] = [
     1 << 31,
     (1 << 31) + 1,
     (1 << 31) + 2,
+];
+
+/// Numbers that are no days; the low bytes of some are those of a day.
+pub const NO_DAYS: [u32; 8] = [
+    LAST_DAY + 1,
+    LAST_DAY + 2,
+    0x0007_0000,
+    0x0100_0000,
+    0xFF00_0005,
+    1 << 31,
+    u32::MAX - 1,
+    u32::MAX,
 ];
 
 /// Numbers at and about the powers of two where a narrower type would wrap.

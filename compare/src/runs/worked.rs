@@ -12,8 +12,10 @@ use crate::reference::edition::Edition;
 use crate::reference::longitudes::{
     JUPITER, MARS, MERCURY_ANOMALY, MOON, MOON_APOGEE, SUN, VENUS_ANOMALY,
 };
+use crate::reference::month::month;
 use crate::reference::page::printed;
 use crate::reference::plate::plate;
+use crate::reference::records::{filled, Record};
 use crate::reference::refusal::result_number;
 use crate::reference::saka::SakaDate;
 use crate::reference::search::{Arc, Arcs, Query};
@@ -437,6 +439,71 @@ fn epoch_plate(checks: &mut Checks, almanac: &Almanac) {
     checks.same("the plate", input, expected.to_string(), came);
 }
 
+/// "Days on both sides" has all fields of the record of day 0, in edition 1.
+const EPOCH: Record = [
+    0, 0, 1258860, 1256760, 603180, 99480, 1105680, 970380, 764160, 828540, 1027260, 1266701,
+    1257257, 29, 26, 25, 10,
+];
+
+/// L1: rows with day 0 once, twice and beside day 33649; and their refusals.
+fn rows(checks: &mut Checks, almanac: &Almanac) {
+    let row = |days: &[u32]| -> Vec<Record> {
+        let lent = |day: &u32| std::array::from_fn(|field| if field == 0 { *day } else { 7 });
+        days.iter().map(lent).collect()
+    };
+    let filled = |edition, days: &[u32]| filled(almanac, edition, &row(days));
+    let mut case = |edition, days: &[u32], expected| {
+        let input = || format!("edition {edition}, days {days:?}");
+        checks.same("the row", input, expected, filled(edition, days));
+    };
+    case(1, &[], Ok(vec![]));
+    case(1, &[0], Ok(vec![EPOCH]));
+    case(1, &[0, 0], Ok(vec![EPOCH, EPOCH]));
+    case(1, &[LAST_DAY + 1], Err(2));
+    case(2, &[0, LAST_DAY + 1], Err(2));
+    case(1, &[0, u32::MAX, 0], Err(2));
+    case(3, &[LAST_DAY + 1], Err(14));
+    case(0, &[], Err(14));
+
+    let came = filled(1, &[33649, 0]).expect("both are days");
+    let input = || "days 33649 and 0".to_string();
+    let [_, weekday, sun, moon, apogee, .., true_sun, true_moon, tithi, nakshatra, yoga, karana] =
+        came[0];
+    let mean = [sun, moon, apogee];
+    checks.same("mean places", input, [123220, 720622, 1133683], mean);
+    let others = [weekday, true_sun, true_moon, tithi, nakshatra, yoga, karana];
+    let expected = [MONDAY, 128648, 737042, 14, 15, 18, 7];
+    checks.same("the day sheet's numbers", input, expected, others);
+    checks.same("day 0 behind it", input, EPOCH, came[1]);
+}
+
+/// L1: the first and the last month that there is, and numbers and inputs without one.
+fn months(checks: &mut Checks, almanac: &Almanac) {
+    let input = || "0".to_string();
+    let came = month(almanac, b"0\n");
+    let expected = "day weekday sun moon apogee node mars mercury jupiter venus saturn true_sun \
+                    true_moon tithi nakshatra yoga karana\n\
+                    0 0 1258860 1256760 603180 99480 1105680 970380 764160 828540 1027260 1266701 \
+                    1257257 29 26 25 10\n\
+                    1 1 ";
+    let begins = came.starts_with(expected);
+    checks.same("the month's beginning", input, true, begins);
+    checks.same("the month's lines", input, 31, came.lines().count());
+    let ends = came.contains("\n29 1 ");
+    checks.same("the month's last day", input, true, ends);
+
+    let input = || "401570".to_string();
+    let came = month(almanac, b"401570\n");
+    checks.same("the month's lines", input, 31, came.lines().count());
+    let ends = came.contains("\n401599 2 ");
+    checks.same("the month's last day", input, true, ends);
+    for (number, refusal) in [("401571\n", 2), ("999999\n", 2), ("401570", 3)] {
+        let expected = format!("refused {refusal}\n");
+        let came = month(almanac, number.as_bytes());
+        checks.same("the month", || number.to_string(), expected, came);
+    }
+}
+
 /// "Days on both sides" as pages: the limbs of two days, and the search's beginning; L8's day 2, whose
 /// tithi differs from edition to edition; and L9's sets and second arcs.
 fn pages(checks: &mut Checks, almanac: &Almanac) {
@@ -522,5 +589,7 @@ pub fn run(checks: &mut Checks, almanac: &Almanac) {
     either(checks, almanac);
     sheet(checks, almanac);
     epoch_plate(checks, almanac);
+    rows(checks, almanac);
+    months(checks, almanac);
     pages(checks, almanac);
 }
