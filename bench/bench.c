@@ -39,6 +39,23 @@ static uint32_t saka_plain(uint32_t n) { return plain_saka_day(1442 + n % 1100, 
 static uint32_t pending(uint32_t n) { return graha_saka_pending_day(1442 + n % 1100, n % 12, n % 30, n % 7, n % 2); }
 static uint32_t pending_plain(uint32_t n) { return plain_saka_pending_day(1442 + n % 1100, n % 12, n % 30, n % 7, n % 2); }
 
+/* Thirty records in one call, from every thirtieth day on. The call is of an archive of its own, records. */
+uint32_t fill_records(uint32_t edition, plain_record *records, uint64_t len);
+
+enum { MONTH = 30 };
+static plain_record month[MONTH], other_month[MONTH];
+
+static void all_months(uint32_t (*fill)(uint32_t, plain_record *, uint64_t), uint32_t edition, plain_record *records) {
+    uint64_t sum = 0;
+    for (uint32_t first = 0; first + MONTH <= DAYS; first += MONTH) {
+        for (uint32_t i = 0; i < MONTH; i++) records[i].day = first + i;
+        sum += fill(edition, records, MONTH) + records[MONTH - 1].karana;
+    }
+    sink += sum;
+}
+static void months(uint32_t edition, size_t unused) { (void)unused, all_months(fill_records, edition, month); }
+static void plain_months(uint32_t edition, size_t unused) { (void)unused, all_months(plain_fill_records, edition, other_month); }
+
 typedef struct {
     const char *name;
     void (*search)(uint32_t, size_t);
@@ -163,6 +180,12 @@ int main(int count, char **word) {
     pair("karana", call_job(graha_karana), call_job(plain_karana), 1.1);
     pair("Saka date", call_job(saka), call_job(saka_plain), 1.1);
     pair("Saka date, an extra month pending or not", call_job(pending), call_job(pending_plain), 1.1);
+    pair("thirty records at one go, edition 1", search_job(months, 1, 0), search_job(plain_months, 1, 0), 1.1);
+    pair("thirty records at one go, edition 2", search_job(months, 2, 0), search_job(plain_months, 2, 0), 1.1);
+    if (memcmp(month, other_month, sizeof month)) {
+        puts("the two months differ");
+        return 1;
+    }
     size_t same = needed(SPARSE);
     ours(SPARSE, ROOM);
     plain(SPARSE, ROOM);

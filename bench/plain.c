@@ -84,10 +84,34 @@ uint32_t plain_true_moon(uint32_t day) { return day > LAST ? 0 : true_moon(day);
 uint32_t plain_tithi(uint32_t day) { return day > LAST ? 0 : past(true_moon(day), true_sun(day)) / 43200; }
 uint32_t plain_nakshatra(uint32_t day) { return day > LAST ? 0 : true_moon(day) / 48000; }
 uint32_t plain_yoga(uint32_t day) { return day > LAST ? 0 : (true_sun(day) + true_moon(day)) % CIRCLE / 48000; }
-uint32_t plain_karana(uint32_t day) {
-    if (day > LAST) return 0;
-    uint32_t h = past(true_moon(day), true_sun(day)) / 21600;
-    return h == 0 ? 11 : h <= 56 ? (h - 1) % 7 + 1 : h - 49;
+static inline uint32_t karana_of(uint32_t h) { return h == 0 ? 11 : h <= 56 ? (h - 1) % 7 + 1 : h - 49; }
+uint32_t plain_karana(uint32_t day) { return day > LAST ? 0 : karana_of(past(true_moon(day), true_sun(day)) / 21600); }
+
+uint32_t plain_fill_records(uint32_t edition, plain_record *records, uint64_t len) {
+    if (edition != 1 && edition != 2) return 14;
+    for (uint64_t i = 0; i < len; i++)
+        if (records[i].day > LAST) return 2;
+    for (uint64_t i = 0; i < len; i++) {
+        plain_record *r = records + i;
+        uint32_t day = r->day;
+        r->weekday = day % 7;
+        r->longitudes[0] = sun(day);
+        r->longitudes[1] = moon(day);
+        r->longitudes[2] = apogee(day);
+        r->longitudes[3] = mean(day, 99480, 766200, 73861124, 57);
+        r->longitudes[4] = mean(day, 1105680, 199920, 2616600, 1387);
+        r->longitudes[5] = mean(day, 970380, 444420, 1487490, 133);
+        r->longitudes[6] = mean(day, 764160, 94680, 2094, 7);
+        r->longitudes[7] = mean(day, 828540, 158520, 401760, 181);
+        r->longitudes[8] = mean(day, 1027260, 812520, 1565, 13);
+        r->sun = true_sun(day);
+        r->moon = moon_of(edition, day);
+        r->tithi = past(r->moon, r->sun) / 43200;
+        r->nakshatra = r->moon / 48000;
+        r->yoga = (r->sun + r->moon) % CIRCLE / 48000;
+        r->karana = karana_of(past(r->moon, r->sun) / 21600);
+    }
+    return 0;
 }
 
 uint32_t plain_element_number(uint32_t which, uint32_t edition, uint32_t day) {
@@ -98,10 +122,7 @@ uint32_t plain_element_number(uint32_t which, uint32_t edition, uint32_t day) {
     case 1: return past(at, true_sun(day)) / 43200;
     case 2: return at / 48000;
     case 3: return (true_sun(day) + at) % CIRCLE / 48000;
-    default: {
-        uint32_t h = past(at, true_sun(day)) / 21600;
-        return h == 0 ? 11 : h <= 56 ? (h - 1) % 7 + 1 : h - 49;
-    }
+    default: return karana_of(past(at, true_sun(day)) / 21600);
     }
 }
 

@@ -4,6 +4,11 @@
 #include <stddef.h>
 #include <stdint.h>
 
+typedef struct {
+    uint32_t day, weekday, longitudes[9], sun, moon, tithi, nakshatra, yoga, karana;
+} plain_record;
+
+uint32_t plain_fill_records(uint32_t edition, plain_record *records, uint64_t len);
 uint32_t plain_mean_sun(uint32_t day);
 uint32_t plain_mean_moon(uint32_t day);
 uint32_t plain_moon_node(uint32_t day);

@@ -137,8 +137,9 @@ pub fn record_of(edition: u32, number: u32) -> RecordAnswer
     }
 }
 
-// Fills each record by its day; or refuses, and touches none.
-pub fn fill_records(edition: u32, records: &mut [DayRecord]) -> u32
+// Fills each record by its day; or refuses, and touches none. (A C call too, of an archive of this crate alone.)
+#[no_mangle]
+pub extern "C" fn fill_records(edition: u32, records: &mut [DayRecord]) -> u32
     ensures { λ r. ⌜ (r ≡ fillRefusal edition (now (records .entry))) × (now (records .exit) ≡ filledAfter edition (now (records .entry))) ⌝ }
 {
     if !panchanga::is_edition(edition) {
