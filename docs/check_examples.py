@@ -2,13 +2,13 @@
 """Runs every example of the pages below and compares what is printed, byte for byte, with what the page says. An example is
 
 - a block whose first line begins with `$ `: each such line is a command, run in the repository's folder, and the lines behind it are all that it writes;
-- a block, the word `prints` alone, and a second block: the first is a torn page for ./catalogue, or a whole C program (```c) for the host's archive;
+- a block, the word `prints` alone, and a second block: the first is a torn page for ./catalogue, or a whole C program (```c) for the archives;
 - a call and its number in the text, `graha_tithi(33649) = 14`.
 
 Of any other block each line must be a command of this repository, or the block must stand in the file that is linked right before it; a formula stands
 in a block marked ```text.
 
-  python3 docs/check_examples.py    after the programs and target/staticlib/libhost.a are built: prints a line for each example that differs,
+  python3 docs/check_examples.py    after the programs and the archives host and records are built: prints a line for each example that differs,
                                     then the counts, and exits with 1 where one differs or a page has none"""
 import os
 import pathlib
@@ -19,7 +19,8 @@ import tempfile
 import textwrap
 
 ROOT = pathlib.Path(__file__).resolve().parent.parent
-PAGES = ["README.md", "docs/engraving.md", "docs/find.md", "docs/host.md", "docs/rules.md"]
+PAGES = ["README.md", "docs/engraving.md", "docs/find.md", "docs/host.md", "docs/month.md", "docs/rules.md"]
+ARCHIVES = ["target/staticlib/libhost.a", "target/staticlib/librecords.a"]
 BLOCK = re.compile(r"^```(?P<language>\w*)\n(?P<fenced>.*?)^```$|(?P<indented>(?:^ {4}[^\n]*\n(?:\n+(?= {4}))?)+)", re.M | re.S)
 CLAIM = re.compile(r"`(graha_\w+\([\w,\s]*\))\s=\s(\d+)`")
 LINK = re.compile(r"\]\(([^)#]+)\)")
@@ -35,12 +36,12 @@ def run(command, given=""):
 
 
 def run_c(program):
-    """What a C program writes that is built against the host's archive."""
+    """What a C program writes that is built against the archives."""
     with tempfile.TemporaryDirectory() as folder:
         source, built = f"{folder}/example.c", f"{folder}/example"
         pathlib.Path(source).write_text(program, encoding="utf-8")
         flags = ["-std=c99", "-Wall", "-Wextra", "-pedantic", "-Werror", "-I", "include"]
-        return run(["cc", *flags, "-o", built, source, "target/staticlib/libhost.a"]) or run([built])
+        return run(["cc", *flags, "-o", built, source, *ARCHIVES]) or run([built])
 
 
 def values(calls):
