@@ -1,9 +1,9 @@
 -- The answers case by case: another edition, a day out of range, and else the records; and the test over all records, day by day.
 -- Assumes nothing.
-use mathlib.Core.Path.{_≡_, refl, sym, ap, _∙_}
+use mathlib.Core.Path.{_≡_, refl, ap}
 use mathlib.Core.Bool.{Bool, true, false, _&&_}
 use mathlib.Core.List.{List, [], _∷_, map}
-use Prim.Native.Nat.{ℕ, zero, suc, _+_, _≤_, _<_}
+use Prim.Native.Nat.{ℕ, zero, suc, _≤_, _<_}
 use native.Mathlib.Nat.{not-suc-le-zero, le-of-suc-le-suc, zero-lt-suc, suc-le-suc-iff}
 use lib.Dec.{leb}
 use lib.ListN.{length, getD}
@@ -23,7 +23,7 @@ use Rattle.panchanga.specs.TrueLongitudes.{isEdition}
 use Rattle.panchanga.specs.OnDays.{panchangaOf}
 use Rattle.panchanga.proofs.Answers.{elements-given}
 use Rattle.records.specs.declared.DayRecord.{DayRecord}
-use Rattle.records.specs.Records.{recordOn, refusedWith, recordOf, allDays, fillRefusal, filledAfter, daysFrom, noMonth, monthOf}
+use Rattle.records.specs.Records.{recordOn, refusedWith, recordOf, allDays, fillRefusal, filledAfter}
 
 -- what a record becomes
 abbrev pub filling : ℕ → DayRecord → DayRecord

@@ -13,7 +13,6 @@ use borrow.Author.Tests.{leb-true, leb-false}
 use Rattle.days.specs.Days.{lastDay}
 use Rattle.panchanga.specs.TrueLongitudes.{isEdition}
 use Rattle.records.specs.declared.DayRecord.{DayRecord}
-use Rattle.records.specs.declared.RecordAnswer.{RecordAnswer}
 use Rattle.records.specs.declared.Month.{Month}
 use Rattle.records.specs.Records.{recordOn, unfilledOn, noRecord, recordOf, allDays, fillRefusal, filledAfter, daysFrom, noMonth, monthOf}
 use Rattle.records.proofs.Answers.{filling, record-given, fill-bad-edition, fill-out-of-range, fill-given, some-out}

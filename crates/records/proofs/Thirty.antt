@@ -10,7 +10,6 @@ use borrow.Author.Tests.{le-leb, lt-leb}
 use Rattle.days.specs.Days.{lastDay}
 use Rattle.panchanga.specs.TrueLongitudes.{isEdition}
 use Rattle.records.specs.declared.DayRecord.{DayRecord}
-use Rattle.records.specs.declared.Month.{Month}
 use Rattle.records.specs.Records.{recordOn, unfilledOn, allDays, filledAfter, daysFrom, noMonth, monthOf}
 use Rattle.records.proofs.Answers.{filling, fill-given}
 

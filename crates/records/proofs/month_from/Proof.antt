@@ -6,7 +6,6 @@ use mathlib.Core.Path.{sym, ap, _∙_}
 use mathlib.Core.List.{List}
 use native.Mathlib.Omega.{arith}
 use Rattle.records.specs.declared.DayRecord.{DayRecord}
-use Rattle.records.specs.declared.Month.{Month}
 use Rattle.records.specs.Records.{filledAfter}
 use Rattle.records.proofs.Thirty.{month-bad-edition, month-out-of-range, month-given, thirty-filled}
 use Rattle.records.proofs.month_from.Statement.{statement}

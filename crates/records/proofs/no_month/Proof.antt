@@ -3,7 +3,6 @@ use mathlib.Core.Path.{ap}
 use lib.ListN.{replicate}
 use borrow.Author.Needs.{needs}
 use Rattle.records.specs.declared.DayRecord.{DayRecord}
-use Rattle.records.specs.declared.Month.{Month}
 use Rattle.records.proofs.no_month.Statement.{statement}
 use Rattle.records.proofs.no_month.Tie as tie
 

@@ -2,7 +2,6 @@
 use mathlib.Core.Path.{ap}
 use borrow.Author.Needs.{needs}
 use Rattle.records.specs.declared.DayRecord.{DayRecord}
-use Rattle.records.specs.declared.RecordAnswer.{RecordAnswer}
 use Rattle.records.proofs.refused.Statement.{statement}
 use Rattle.records.proofs.refused.Tie as tie
 
