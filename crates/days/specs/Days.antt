@@ -1,7 +1,8 @@
 -- The days 0 to 401,599 as pairs of paper 01's cycle C and day A within it: day = 4016 × C + A.
 -- Assumes nothing.
 use mathlib.Core.Bool.{Bool, cond, _&&_}
-use Prim.Native.Nat.{ℕ, _+_, _*_, _/_, _%_}
+use mathlib.Core.List.{List, [], _∷_}
+use Prim.Native.Nat.{ℕ, zero, suc, _+_, _*_, _/_, _%_}
 use lib.Dec.{ltb, leb}
 use Rattle.days.specs.Refusals.{accepted, outOfRange}
 use Rattle.days.specs.declared.Day.{Day}
@@ -42,6 +43,11 @@ count d = cycleDays * d .cycle + d .within
 -- 0 Monday to 6 Sunday
 abbrev pub weekdayOn : ℕ → ℕ
 weekdayOn n = n % 7
+
+-- the m days from day n on
+unfoldable pub daysFrom : ℕ → ℕ → List ℕ
+daysFrom n zero = []
+daysFrom n (suc m) = n ∷ daysFrom (suc n) m
 
 -- the pair of day n
 abbrev pub pairAt : ℕ → Day

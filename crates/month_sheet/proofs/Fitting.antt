@@ -10,7 +10,7 @@ use lib.ListN.{length, length-append}
 use borrow.Author.Tests.{ltb-true, ltb-false, eqb-true, eqb-false}
 use Rattle.days.specs.declared.Day.{Day}
 use Rattle.days.specs.Refusals.{accepted, outOfRange, badEdition}
-use Rattle.days.specs.Days.{lastDay, pairAt}
+use Rattle.days.specs.Days.{lastDay, pairAt, daysFrom}
 use Rattle.longitudes.specs.Longitudes.{table, longitudeAt, longitudesAt}
 use Rattle.longitudes.proofs.Table.{longitude-small}
 use Rattle.panchanga.specs.TrueLongitudes.{firstEdition, isEdition}
@@ -18,7 +18,7 @@ use Rattle.panchanga.specs.OnDays.{trueSunAt, trueMoonAt, tithiAt, nakshatraAt,
 use Rattle.panchanga.proofs.Bounds.{sun-small, moon-small, tithi-small, nakshatra-small, yoga-small, karana-range}
 use Rattle.records.specs.declared.DayRecord.{DayRecord}
 use Rattle.records.specs.declared.Month.{Month}
-use Rattle.records.specs.Records.{recordOn, daysFrom, noMonth, monthOf}
+use Rattle.records.specs.Records.{recordOn, noMonth, monthOf}
 use Rattle.records.proofs.Laws.{month-long, month-days, month-record}
 use Rattle.text.specs.Lines.{lineCapacity, emptyLine, withBytes, spaced, Holds}
 use Rattle.text.specs.Inputs.{dayInput}

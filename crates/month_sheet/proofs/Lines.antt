@@ -19,7 +19,7 @@ use Rattle.text.specs.Decimal.{digitsOf}
 use Rattle.text.specs.Lines.{newline, withByte, withBytes, spaced, refusalLine}
 use Rattle.text.specs.Inputs.{dayInput}
 use Rattle.text.proofs.Lines.{with-byte-is, with-bytes-append}
-use Rattle.month_sheet.specs.MonthSheets.{monthHeading, elements, recordLine, recordLines, behind, monthRead, monthSheet, lineOf}
+use Rattle.month_sheet.specs.MonthSheets.{monthHeading, trueColumns, recordLine, recordLines, behind, monthRead, monthSheet, lineOf}
 
 module _ (s : List ℕ) (read : NumberAnswer) (e : read ≡ dayInput s) where
   pub input-refused : (read .refusal ≡ accepted → ⊥) → monthRead s ≡ noMonth (read .refusal)
@@ -59,9 +59,9 @@ none-behind m (suc k) r l = rw (eq-eqb (m .refusal) accepted r, le-ltb k 30 (ome
 -- ---- a record's line is put together from its parts
 pub record-line-made :
     (l : Line) (r : DayRecord) →
-    withByte (withBytes (withBytes (withBytes (withBytes l (digitsOf (r .day))) (spaced (r .weekday ∷ []))) (spaced (r .longitudes))) (spaced (elements r))) newline ≡ withBytes l (recordLine r)
+    withByte (withBytes (withBytes (withBytes (withBytes l (digitsOf (r .day))) (spaced (r .weekday ∷ []))) (spaced (r .longitudes))) (spaced (trueColumns r))) newline ≡ withBytes l (recordLine r)
 unfolding recordLine
-record-line-made l r = together l (digitsOf (r .day)) (spaced (r .weekday ∷ [])) (spaced (r .longitudes)) (spaced (elements r))
+record-line-made l r = together l (digitsOf (r .day)) (spaced (r .weekday ∷ [])) (spaced (r .longitudes)) (spaced (trueColumns r))
   where
     together : (l : Line) (a b c d : List ℕ) → withByte (withBytes (withBytes (withBytes (withBytes l a) b) c) d) newline ≡ withBytes l (a ++ (b ++ (c ++ (d ++ (newline ∷ [])))))
     together l a b c d = simp (with-byte-is, with-bytes-append, append-assoc)

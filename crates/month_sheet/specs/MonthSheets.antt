@@ -20,12 +20,12 @@ unfoldable pub monthHeading : List ℕ
 monthHeading = ascii "day weekday sun moon apogee node mars mercury jupiter venus saturn true_sun true_moon tithi nakshatra yoga karana\n"
 
 -- the true Sun and Moon and the elements
-abbrev pub elements : DayRecord → List ℕ
-elements r = r .sun ∷ r .moon ∷ r .tithi ∷ r .nakshatra ∷ r .yoga ∷ r .karana ∷ []
+abbrev pub trueColumns : DayRecord → List ℕ
+trueColumns r = r .sun ∷ r .moon ∷ r .tithi ∷ r .nakshatra ∷ r .yoga ∷ r .karana ∷ []
 
 -- a record's numbers in the heading's order
 unfoldable pub recordLine : DayRecord → List ℕ
-recordLine r = digitsOf (r .day) ++ (spaced (r .weekday ∷ []) ++ (spaced (r .longitudes) ++ (spaced (elements r) ++ ascii "\n")))
+recordLine r = digitsOf (r .day) ++ (spaced (r .weekday ∷ []) ++ (spaced (r .longitudes) ++ (spaced (trueColumns r) ++ ascii "\n")))
 
 unfoldable pub recordLines : List DayRecord → List ℕ
 recordLines [] = []

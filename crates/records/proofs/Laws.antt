@@ -10,11 +10,11 @@ use native.Mathlib.Omega.{arith}
 use lib.Dec.{leb}
 use lib.ListN.{length, getD}
 use borrow.Author.Tests.{leb-true, leb-false}
-use Rattle.days.specs.Days.{lastDay}
+use Rattle.days.specs.Days.{lastDay, daysFrom}
 use Rattle.panchanga.specs.TrueLongitudes.{isEdition}
 use Rattle.records.specs.declared.DayRecord.{DayRecord}
 use Rattle.records.specs.declared.Month.{Month}
-use Rattle.records.specs.Records.{recordOn, unfilledOn, noRecord, recordOf, allDays, fillRefusal, filledAfter, daysFrom, noMonth, monthOf}
+use Rattle.records.specs.Records.{recordOn, unfilledOn, noRecord, recordOf, allDays, fillRefusal, filledAfter, noMonth, monthOf}
 use Rattle.records.proofs.Answers.{filling, record-given, fill-bad-edition, fill-out-of-range, fill-given, some-out}
 use Rattle.records.proofs.Thirty.{thirty-long, thirty-at, month-bad-edition, month-out-of-range, month-given, thirty-in}
 

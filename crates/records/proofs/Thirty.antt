@@ -7,10 +7,10 @@ use Prim.Native.Nat.{ℕ, zero, suc, _+_, _≤_, _<_}
 use native.Mathlib.Omega.{arith}
 use lib.ListN.{length, getD}
 use borrow.Author.Tests.{le-leb, lt-leb}
-use Rattle.days.specs.Days.{lastDay}
+use Rattle.days.specs.Days.{lastDay, daysFrom}
 use Rattle.panchanga.specs.TrueLongitudes.{isEdition}
 use Rattle.records.specs.declared.DayRecord.{DayRecord}
-use Rattle.records.specs.Records.{recordOn, unfilledOn, allDays, filledAfter, daysFrom, noMonth, monthOf}
+use Rattle.records.specs.Records.{recordOn, unfilledOn, allDays, filledAfter, noMonth, monthOf}
 use Rattle.records.proofs.Answers.{filling, fill-given}
 
 module _ {A : Type 0} (f : ℕ → A) where

@@ -2,12 +2,12 @@
 -- Assumes nothing.
 use mathlib.Core.Bool.{Bool, true, cond, _&&_}
 use mathlib.Core.List.{List, [], _∷_, map}
-use Prim.Native.Nat.{ℕ, zero, suc, _+_}
+use Prim.Native.Nat.{ℕ, _+_}
 use lib.Dec.{leb, eqb}
 use lib.ListN.{replicate}
 use Rattle.days.specs.declared.Day.{Day}
 use Rattle.days.specs.Refusals.{accepted, outOfRange, badEdition}
-use Rattle.days.specs.Days.{lastDay, pairAt, weekdayOn}
+use Rattle.days.specs.Days.{lastDay, pairAt, weekdayOn, daysFrom}
 use Rattle.longitudes.specs.Longitudes.{longitudesAt}
 use Rattle.panchanga.specs.TrueLongitudes.{isEdition}
 use Rattle.panchanga.specs.OnDays.{trueSunAt, trueMoonAt, tithiAt, nakshatraAt, yogaAt, karanaAt}
@@ -57,11 +57,6 @@ fillRefusal e xs = cond (isEdition e) (cond (allDays xs) accepted outOfRange) ba
 -- THE RECORDS AFTERWARDS: each that of its day, or all as they were
 unfoldable pub filledAfter : ℕ → List DayRecord → List DayRecord
 filledAfter e xs = cond (eqb (fillRefusal e xs) accepted) (map (λ (x : DayRecord). recordOn e (x .day)) xs) xs
-
--- m days, from day n on
-unfoldable pub daysFrom : ℕ → ℕ → List ℕ
-daysFrom n zero = []
-daysFrom n (suc m) = n ∷ daysFrom (suc n) m
 
 abbrev pub noMonth : ℕ → Month
 noMonth r = record { refusal = r; records = replicate 30 noRecord }

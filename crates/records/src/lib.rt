@@ -7,10 +7,10 @@ ghost use mathlib.Core.Path.{_≡_};
 ghost use mathlib.Core.Bool.{true};
 ghost use mathlib.Core.List.{map};
 ghost use Prim.Native.Nat.{_≤_};
-ghost use Rattle.days.specs.Days.{inRange, lastDay};
+ghost use Rattle.days.specs.Days.{inRange, lastDay, daysFrom};
 ghost use Rattle.longitudes.specs.Longitudes.{longitudesAt};
 ghost use Rattle.panchanga.specs.TrueLongitudes.{isEdition};
-ghost use Rattle.records.specs.Records.{recordOn, unfilledOn, refusedWith, recordOf, fillRefusal, filledAfter, daysFrom, noMonth, monthOf};
+ghost use Rattle.records.specs.Records.{recordOn, unfilledOn, refusedWith, recordOf, fillRefusal, filledAfter, noMonth, monthOf};
 
 // A day's number, and what is filled in for it: the nine mean longitudes in the order of `longitudes::Body`, the true Sun and Moon, the elements.
 #[repr(C)]

@@ -6,7 +6,8 @@ use mathlib.Core.Bool.{Bool, true, false, cond}
 use mathlib.Core.List.{List, [], _∷_}
 use native.Mathlib.Omega.{arith}
 use lib.ListN.{length}
-use Rattle.search.specs.Days.{filtered, daysFrom}
+use Rattle.days.specs.Days.{daysFrom}
+use Rattle.search.specs.Days.{filtered}
 
 pub filtered-at : (p : ℕ → Bool) (a m b n : ℕ) → a ≡ b → m ≡ n → filtered p (daysFrom a m) ≡ filtered p (daysFrom b n)
 filtered-at p a m b n e f = ap (filtered p) (ap₂ daysFrom e f)

@@ -11,7 +11,7 @@ use native.Mathlib.Decide.{decLe}
 use lib.Dec.{leb, eqb}
 use lib.ListN.{length, getD}
 use borrow.Author.Tests.{leb-true, le-leb, eqb-true, eqb-false, eq-eqb}
-use Rattle.days.specs.Days.{lastDay, theNumber}
+use Rattle.days.specs.Days.{lastDay, theNumber, daysFrom}
 use Rattle.entries.specs.Entries.{withEntries, capacity, entryAt}
 use Rattle.query.specs.declared.Query.{Query}
 use Rattle.query.specs.Conditions.{bodyArcsInRange}
@@ -19,7 +19,7 @@ use Rattle.query.specs.Query.{sunArcs, conditionsMet, matches, refusalOf}
 use Rattle.panchanga.specs.TrueLongitudes.{isEdition}
 use Rattle.query.proofs.Accepted.{accepted-by}
 use Rattle.search.specs.Look.{nextDay, notExamined, examinedOf}
-use Rattle.search.specs.Days.{filtered, daysFrom, spanLength, span, matchingDays, visitedFrom, visitedDays}
+use Rattle.search.specs.Days.{filtered, spanLength, span, matchingDays, visitedFrom, visitedDays}
 use Rattle.search.proofs.Arc.{next-after}
 use Rattle.entries.proofs.Laws.{entries-read}
 use Rattle.search.proofs.Skip.{matching-visited, visit-end, visit-more, bound}

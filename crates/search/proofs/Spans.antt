@@ -5,11 +5,12 @@ use mathlib.Core.Path.{_≡_, refl, ap, ap₂, sym, _∙_}
 use mathlib.Core.Bool.{Bool, true, false, cond}
 use mathlib.Core.List.{List, [], _∷_, _++_}
 use native.Mathlib.Omega.{arith}
+use Rattle.days.specs.Days.{daysFrom}
 use Rattle.query.specs.declared.Query.{Query}
 use Rattle.query.specs.Conditions.{conditionsInRange, elementsMet}
 use Rattle.query.specs.Query.{conditionsMet, refusalOf}
 use Rattle.query.proofs.Accepted.{accepted-by, accepts}
-use Rattle.search.specs.Days.{filtered, daysFrom, matchingDays}
+use Rattle.search.specs.Days.{filtered, matchingDays}
 use Rattle.search.specs.Spans.{between}
 
 days-join : (a m n : ℕ) → daysFrom a (m + n) ≡ daysFrom a m ++ daysFrom (a + m) n

@@ -7,6 +7,7 @@ use lib.Dec.{leb}
 use lib.ListN.{length}
 use Rattle.query.specs.declared.Query.{Query}
 use Rattle.query.specs.Conditions.{givenArcs}
+use Rattle.days.specs.Days.{daysFrom}
 use Rattle.query.specs.Query.{sunArcs, conditionsMet}
 use Rattle.search.specs.Look.{sunInArcs, nextDay}
 
@@ -14,11 +15,6 @@ use Rattle.search.specs.Look.{sunInArcs, nextDay}
 unfoldable pub filtered : (ℕ → Bool) → List ℕ → List ℕ
 filtered p [] = []
 filtered p (x ∷ xs) = cond (p x) (x ∷ filtered p xs) (filtered p xs)
-
--- the n days from a on
-unfoldable pub daysFrom : ℕ → ℕ → List ℕ
-daysFrom a zero = []
-daysFrom a (suc n) = a ∷ daysFrom (suc a) n
 
 -- how many days the span has, both ends counted
 abbrev pub spanLength : Query → ℕ

@@ -6,8 +6,9 @@ use mathlib.Core.Path.{refl, sym, _∙_}
 use mathlib.Core.List.{map}
 use Prim.Native.Nat.{_-_, _≤_}
 use native.Mathlib.Omega.{arith}
+use Rattle.days.specs.Days.{daysFrom}
 use Rattle.longitudes.proofs.Filling.{Filled, filled-more, filled-whole}
-use Rattle.records.specs.Records.{unfilledOn, noRecord, daysFrom}
+use Rattle.records.specs.Records.{unfilledOn, noRecord}
 use Rattle.records.proofs.Thirty.{thirty-long, thirty-at}
 use Rattle.records.proofs.thirty_from.Statement.{statement}
 use Rattle.records.proofs.thirty_from.Tie as tie
