@@ -187,7 +187,7 @@ impl BodyArcs {
     }
 
     // Whether one that is given has a longitude.
-    fn have(self, longitude: u32) -> bool
+    pub fn have(self, longitude: u32) -> bool
         ensures { λ r. ⌜ r ≡ inSome (givenArcs self) longitude ⌝ }
     {
         let first = self.first;

@@ -1,0 +1,5 @@
+mod Testing
+mod Bodies
+mod Order
+pub mod Accepted
+pub mod Laws

@@ -1,0 +1,39 @@
+-- How the test of a condition comes out: one that is not given holds, and of one that is given the value found decides.
+-- Assumes nothing.
+use Prim.Native.Nat.{ℕ}
+use mathlib.Core.Path.{_≡_, sym}
+use mathlib.Core.Bool.{Bool, true, false, cond, true≢false}
+use lib.Dec.{eqb}
+use Rattle.days.specs.Weekdays.{inSet}
+use Rattle.query.specs.declared.Asked.{Asked}
+use Rattle.query.specs.declared.Weekdays.{Weekdays}
+use Rattle.query.specs.declared.BodyArcs.{BodyArcs}
+use Rattle.query.specs.Conditions.{meets, weekdayMet, arcsGiven, givenArcs, inSome, inArcs}
+use Rattle.reasons.specs.Parts.{TestedFor}
+
+none : (holds : Bool) (value : ℕ) → true ≡ holds → TestedFor holds value (record { holds = true; found = 0 })
+none holds value e = record { outcome = e; found = λ f. absurd (true≢false f) }
+
+some : {holds h : Bool} {value x : ℕ} → h ≡ holds → x ≡ value → TestedFor holds value (record { holds = h; found = x })
+some e f = record { outcome = e; found = λ _. f }
+
+module _ (asked : Asked) (value : ℕ) where
+  pub no-number : asked .given ≡ false → TestedFor (meets asked value) value (record { holds = true; found = 0 })
+  no-number g = none _ _ (unfold meets in rw g)
+
+  pub number : {x : ℕ} → asked .given ≡ true → x ≡ value → TestedFor (meets asked value) value (record { holds = eqb x (asked .value); found = x })
+  number g e = some (unfold meets in rw (g, e)) e
+
+module _ (asked : Weekdays) (value : ℕ) where
+  pub no-weekdays : asked .given ≡ false → TestedFor (weekdayMet asked value) value (record { holds = true; found = 0 })
+  no-weekdays g = none _ _ (unfold weekdayMet in rw g)
+
+  pub weekdays : {h : Bool} {x : ℕ} → asked .given ≡ true → x ≡ value → h ≡ inSet (asked .set) x → TestedFor (weekdayMet asked value) value (record { holds = h; found = x })
+  weekdays g e i = some (unfold weekdayMet in rw (g, i, e)) e
+
+module _ (asked : BodyArcs) (value : ℕ) where
+  pub no-arcs : arcsGiven asked ≡ false → TestedFor (inArcs asked value) value (record { holds = true; found = 0 })
+  no-arcs g = none _ _ (unfold inArcs in rw g)
+
+  pub arcs : {h : Bool} {x : ℕ} → arcsGiven asked ≡ true → x ≡ value → h ≡ inSome (givenArcs asked) x → TestedFor (inArcs asked value) value (record { holds = h; found = x })
+  arcs g e i = some (unfold inArcs in rw (g, i, e)) e

@@ -1,0 +1,20 @@
+-- `test_nakshatra` meets its contract: the nakshatra of a day in range is not refused. Assumes nothing.
+use borrow.Author.Needs.{needs}
+use borrow.Author.Tests.{not-true, not-false}
+use Rattle.panchanga.specs.OnDays.{nakshatraAt}
+use Rattle.panchanga.proofs.Answers.{given-in}
+use Rattle.reasons.proofs.Testing.{no-number, number}
+use Rattle.reasons.proofs.test_nakshatra.Statement.{statement}
+use Rattle.reasons.proofs.test_nakshatra.Tie as tie
+
+returns : tie.Need-returns
+returns c = no-number _ _ (not-true _ (c .if1 .taken))
+
+nakshatra-requires : tie.Need-nakshatra-requires
+nakshatra-requires c κs = search needs
+
+returns-2 : tie.Need-returns-2
+returns-2 c = number _ _ (not-false _ (c .before .before .before .if1 .left)) (given-in nakshatraAt _ _ (c .before .before .nakshatra .ensures) (c .before .before .before .before .before .pre .1) (c .before .before .before .before .before .pre .0))
+
+pub test-nakshatra-spec : {M : Type 1} → statement M
+test-nakshatra-spec = tie.close (tie.spec returns nakshatra-requires returns-2)

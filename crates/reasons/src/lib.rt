@@ -1,0 +1,256 @@
+// Why a day is not in a query's list: the first condition that it does not meet, or that it fits.
+use days::Day;
+use days::refusal;
+use longitudes::Body;
+use query::Asked;
+use query::BodyArcs;
+use query::Query;
+use query::Weekdays;
+ghost use mathlib.Core.Path.{_≡_};
+ghost use mathlib.Core.Bool.{true};
+ghost use Prim.Native.Nat.{_≤_};
+ghost use Rattle.days.specs.Days.{lastDay, inRange, weekdayAt};
+ghost use Rattle.longitudes.specs.Longitudes.{longitudeAt};
+ghost use Rattle.longitudes.specs.Answers.{bodyNumber};
+ghost use Rattle.panchanga.specs.TrueLongitudes.{isEdition};
+ghost use Rattle.panchanga.specs.OnDays.{tithiAt, nakshatraAt, yogaAt};
+ghost use Rattle.query.specs.Conditions.{meets, weekdayMet, inArcs};
+ghost use Rattle.reasons.specs.Conditions.{everyBody, arcConditions, conditionsOn, firstUnmet};
+ghost use Rattle.reasons.specs.Reasons.{refusalOn, whyOf, causeOf, numbersOf};
+ghost use Rattle.reasons.specs.Parts.{TestedFor};
+
+// The bodies by their numbers.
+const BODIES: [Body; longitudes::BODIES] = [
+    Body::Sun,
+    Body::Moon,
+    Body::MoonApogee,
+    Body::MoonNode,
+    Body::Mars,
+    Body::MercuryAnomaly,
+    Body::Jupiter,
+    Body::VenusAnomaly,
+    Body::Saturn,
+];
+
+// What shuts a day out, with the value asked and the value found: the end of the span that was passed and the day; the set of weekdays and the day's; the number asked and the
+// day's; a body's arcs, by its number, and its mean longitude. Or the day fits.
+pub enum Reason {
+    Fits,
+    BeforeSpan {
+        first: u32,
+        day: u32,
+    },
+    AfterSpan {
+        last: u32,
+        day: u32,
+    },
+    Weekday {
+        asked: u32,
+        found: u32,
+    },
+    Tithi {
+        asked: u32,
+        found: u32,
+    },
+    Nakshatra {
+        asked: u32,
+        found: u32,
+    },
+    Yoga {
+        asked: u32,
+        found: u32,
+    },
+    Arcs {
+        body: u32,
+        asked: BodyArcs,
+        found: u32,
+    },
+}
+
+// The reason, in the query's edition; or the refusal's number.
+pub enum Answer {
+    Refused(u32),
+    Told { edition: u32, reason: Reason },
+}
+
+// Whether a condition holds, and the value found where it does not.
+struct Tested {
+    holds: bool,
+    found: u32,
+}
+
+// A condition that is not given.
+const NOT_ASKED: Tested = Tested {
+    holds: true,
+    found: 0,
+};
+
+fn test_weekday(asked: Weekdays, day: Day) -> Tested
+    requires { ⌜ inRange day ≡ true ⌝ }
+    ensures { λ r. ⌜ TestedFor (weekdayMet asked (weekdayAt day)) (weekdayAt day) r ⌝ }
+{
+    if !asked.given {
+        return NOT_ASKED;
+    }
+    let found = day.weekday();
+    Tested {
+        holds: days::set_has(asked.set, found.number),
+        found: found.number,
+    }
+}
+
+fn test_tithi(asked: Asked, edition: u32, day: Day) -> Tested
+    requires { ⌜ (inRange day ≡ true) × (isEdition edition ≡ true) ⌝ }
+    ensures { λ r. ⌜ TestedFor (meets asked (tithiAt edition day)) (tithiAt edition day) r ⌝ }
+{
+    if !asked.given {
+        return NOT_ASKED;
+    }
+    let found = panchanga::tithi(edition, day);
+    Tested {
+        holds: found.number == asked.value,
+        found: found.number,
+    }
+}
+
+fn test_nakshatra(asked: Asked, edition: u32, day: Day) -> Tested
+    requires { ⌜ (inRange day ≡ true) × (isEdition edition ≡ true) ⌝ }
+    ensures { λ r. ⌜ TestedFor (meets asked (nakshatraAt edition day)) (nakshatraAt edition day) r ⌝ }
+{
+    if !asked.given {
+        return NOT_ASKED;
+    }
+    let found = panchanga::nakshatra(edition, day);
+    Tested {
+        holds: found.number == asked.value,
+        found: found.number,
+    }
+}
+
+fn test_yoga(asked: Asked, edition: u32, day: Day) -> Tested
+    requires { ⌜ (inRange day ≡ true) × (isEdition edition ≡ true) ⌝ }
+    ensures { λ r. ⌜ TestedFor (meets asked (yogaAt edition day)) (yogaAt edition day) r ⌝ }
+{
+    if !asked.given {
+        return NOT_ASKED;
+    }
+    let found = panchanga::yoga(edition, day);
+    Tested {
+        holds: found.number == asked.value,
+        found: found.number,
+    }
+}
+
+fn test_arcs(asked: BodyArcs, body: Body, day: Day) -> Tested
+    requires { ⌜ inRange day ≡ true ⌝ }
+    ensures { λ r. ⌜ TestedFor (inArcs asked (longitudeAt (bodyNumber body) day)) (longitudeAt (bodyNumber body) day) r ⌝ }
+{
+    if !asked.given() {
+        return NOT_ASKED;
+    }
+    let found = longitudes::mean_longitude(body, day);
+    Tested {
+        holds: asked.have(found.seconds),
+        found: found.seconds,
+    }
+}
+
+// The first body whose arcs are not met.
+fn unmet_arcs(arcs: [BodyArcs; 9], day: Day) -> Reason
+    requires { ⌜ inRange day ≡ true ⌝ }
+    ensures { λ r. ⌜ causeOf r ≡ firstUnmet (arcConditions arcs day everyBody) ⌝ }
+{
+    let mut body = 0;
+    while body < longitudes::BODIES {
+        let asked = arcs[body];
+        let tested = test_arcs(asked, BODIES[body], day);
+        if !tested.holds {
+            let number = body as u32;
+            return Reason::Arcs {
+                body: number,
+                asked,
+                found: tested.found,
+            };
+        }
+        body += 1;
+    }
+    Reason::Fits
+}
+
+// The first condition that a day does not meet, in paper 02's order. Each is tested only where those before it hold, so nothing is reckoned behind it.
+fn first_unmet(query: Query, day: u32) -> Reason
+    requires { ⌜ (day ≤ lastDay) × (isEdition (query .edition) ≡ true) ⌝ }
+    ensures { λ r. ⌜ causeOf r ≡ firstUnmet (conditionsOn query day) ⌝ }
+{
+    if day < query.first {
+        return Reason::BeforeSpan {
+            first: query.first,
+            day,
+        };
+    }
+    if query.last < day {
+        return Reason::AfterSpan {
+            last: query.last,
+            day,
+        };
+    }
+    let pair = Day::from_number(day).day;
+    let weekday = test_weekday(query.weekdays, pair);
+    if !weekday.holds {
+        return Reason::Weekday {
+            asked: query.weekdays.set,
+            found: weekday.found,
+        };
+    }
+    let tithi = test_tithi(query.tithi, query.edition, pair);
+    if !tithi.holds {
+        return Reason::Tithi {
+            asked: query.tithi.value,
+            found: tithi.found,
+        };
+    }
+    let nakshatra = test_nakshatra(query.nakshatra, query.edition, pair);
+    if !nakshatra.holds {
+        return Reason::Nakshatra {
+            asked: query.nakshatra.value,
+            found: nakshatra.found,
+        };
+    }
+    let yoga = test_yoga(query.yoga, query.edition, pair);
+    if !yoga.holds {
+        return Reason::Yoga {
+            asked: query.yoga.value,
+            found: yoga.found,
+        };
+    }
+    let arcs = query.arcs;
+    unmet_arcs(arcs, pair)
+}
+
+// The refusal of the question, or 0.
+fn refusal_on(query: Query, day: u32) -> u32
+    ensures { λ r. ⌜ r ≡ refusalOn query day ⌝ }
+{
+    if !panchanga::is_edition(query.edition) {
+        return refusal::BAD_EDITION;
+    }
+    if Day::LAST < day {
+        return refusal::OUT_OF_RANGE;
+    }
+    query.refusal()
+}
+
+// Why a day is not in the list that the search makes of a query, or that it is.
+pub fn why(query: Query, day: u32) -> Answer
+    ensures { λ r. ⌜ numbersOf r ≡ whyOf query day ⌝ }
+{
+    let refusal = refusal_on(query, day);
+    if refusal != refusal::NONE {
+        return Answer::Refused(refusal);
+    }
+    let reason = first_unmet(query, day);
+    Answer::Told {
+        edition: query.edition,
+        reason,
+    }
+}
