@@ -1,12 +1,13 @@
 -- What the bridge hands back: the library's own answers for a query of 260 bytes, and refusal 3 for bytes of another length.
 -- Assumes nothing.
 use mathlib.Core.Bool.{cond}
-use mathlib.Core.List.{List}
+use mathlib.Core.List.{List, [], _∷_}
 use Prim.Native.Nat.{ℕ}
 use lib.Dec.{eqb}
-use lib.ListN.{length}
+use lib.ListN.{length, getD}
 use Rattle.days.specs.Refusals.{badInput}
 use Rattle.entries.specs.Entries.{capacity}
+use Rattle.reasons.specs.Reasons.{Numbers, noAnswer, whyOf}
 use Rattle.search.specs.declared.Examined.{Examined}
 use Rattle.search.specs.Look.{notExamined, examinedOf}
 use Rattle.search.specs.Days.{matchingDays, visitedDays}
@@ -29,3 +30,11 @@ bridgeLooked bytes = cond (eqb (length bytes) queryBytes) (unlessRefused (queryF
 -- the look at a day
 unfoldable pub bridgeExamined : List ℕ → ℕ → Examined
 bridgeExamined bytes day = cond (eqb (length bytes) queryBytes) (examinedOf (queryFrom bytes) day) (notExamined badInput)
+
+-- why a day is not in the list
+unfoldable pub bridgeWhy : List ℕ → ℕ → Numbers
+bridgeWhy bytes day = cond (eqb (length bytes) queryBytes) (whyOf (queryFrom bytes) day) (noAnswer badInput)
+
+-- the values asked, in six places; behind the last one zeros
+abbrev pub sixOf : List ℕ → List ℕ
+sixOf asked = getD asked 0 0 ∷ getD asked 1 0 ∷ getD asked 2 0 ∷ getD asked 3 0 ∷ getD asked 4 0 ∷ getD asked 5 0 ∷ []

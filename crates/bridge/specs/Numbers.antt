@@ -8,9 +8,13 @@ use Rattle.days.specs.declared.NumberAnswer.{NumberAnswer}
 use Rattle.longitudes.specs.declared.MeanLongitude.{MeanLongitude}
 use Rattle.panchanga.specs.declared.Panchanga.{Panchanga}
 use Rattle.planets.specs.declared.TrueLongitudes.{TrueLongitudes}
+use Rattle.reasons.specs.Conditions.{Cause}
+use Rattle.reasons.specs.Reasons.{Numbers}
 use Rattle.search.specs.declared.Found.{Found}
 use Rattle.bridge.specs.declared.looks.Look.{Look}
-use Rattle.bridge.specs.Answers.{bridgeLength, bridgeLooked, bridgeExamined}
+use Rattle.bridge.specs.declared.whys.Cause.{Cause as CauseFound}
+use Rattle.bridge.specs.declared.whys.Numbers.{Numbers as NumbersFound}
+use Rattle.bridge.specs.Answers.{bridgeLength, bridgeLooked, bridgeExamined, sixOf}
 
 pub record BridgeMeasured (bytes : List ℕ) (found : Found) : Type 0 where
   pub count : found .length ≡ bridgeLength bytes
@@ -43,3 +47,13 @@ pub record BridgeElement (meant found : NumberAnswer) : Type 0 where
 pub record BridgePlanets (meant found : TrueLongitudes) : Type 0 where
   pub refusal : found .refusal ≡ meant .refusal
   pub longitudes : found .longitudes ≡ meant .longitudes
+
+pub record BridgeCause (meant : Cause) (found : CauseFound) : Type 0 where
+  pub condition : found .condition ≡ meant .condition
+  pub asked : found .asked ≡ sixOf (meant .asked)
+  pub value : found .found ≡ meant .found
+
+pub record BridgeWhy (meant : Numbers) (found : NumbersFound) : Type 0 where
+  pub result : found .result ≡ meant .refusal
+  pub edition : found .edition ≡ meant .edition
+  pub cause : BridgeCause (meant .cause) (found .cause)

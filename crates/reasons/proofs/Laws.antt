@@ -69,22 +69,31 @@ none-unmet (c ∷ cs) h = go (c .holds) h (λ k. none-unmet cs k)
 
 Numbered : List Condition → Type 0
 Numbered [] = Unit {0}
-Numbered (c ∷ cs) = (0 < c .cause .condition) × Numbered cs
+Numbered (c ∷ cs) = (0 < c .cause .condition) × (c .cause .condition ≤ 15) × Numbered cs
 
 all-met : (cs : List Condition) → Numbered cs → firstUnmet cs .condition ≡ 0 → allHold cs ≡ true
 unfolding allHold firstUnmet Numbered
 all-met [] k h = refl
-all-met (c ∷ cs) k h = go (c .holds) h (λ e. all-met cs (k .1) e)
+all-met (c ∷ cs) k h = go (c .holds) h (λ e. all-met cs (k .2) e)
   where
     go : (b : Bool) → cond b (firstUnmet cs) (c .cause) .condition ≡ 0 → (firstUnmet cs .condition ≡ 0 → allHold cs ≡ true) → (b && allHold cs) ≡ true
     go true e deeper = deeper e
     go false e deeper = absurd (omega (arith, k .0))
 
+small : (cs : List Condition) → Numbered cs → firstUnmet cs .condition ≤ 15
+unfolding firstUnmet Numbered
+small [] k = omega arith
+small (c ∷ cs) k = go (c .holds) (small cs (k .2))
+  where
+    go : (b : Bool) → firstUnmet cs .condition ≤ 15 → cond b (firstUnmet cs) (c .cause) .condition ≤ 15
+    go true h = h
+    go false h = k .1
+
 module _ (q : Query) (n : ℕ) where
   numbered : Numbered (conditionsOn q n)
   unfolding Numbered conditionsOn arcConditions
   numbered =
-      (omega arith, (omega arith, (omega arith, (omega arith, (omega arith, (omega arith, (omega arith, (omega arith, (omega arith, (omega arith, (omega arith, (omega arith, (omega arith, (omega arith, (omega arith, tt)))))))))))))))
+      (omega arith, omega arith, (omega arith, omega arith, (omega arith, omega arith, (omega arith, omega arith, (omega arith, omega arith, (omega arith, omega arith, (omega arith, omega arith, (omega arith, omega arith, (omega arith, omega arith, (omega arith, omega arith, (omega arith, omega arith, (omega arith, omega arith, (omega arith, omega arith, (omega arith, omega arith, (omega arith, omega arith, tt)))))))))))))))
 
   -- all conditions together, in whatever order, are what makes a day match
   all-together : allHold (conditionsOn q n) ≡ matches q n
@@ -114,6 +123,15 @@ module _ (q : Query) (n : ℕ) where
   told : refusalOn q n ≡ 0 → whyOf q n ≡ record { refusal = 0; edition = q .edition; cause = firstUnmet (conditionsOn q n) }
   unfolding whyOf
   told r = rw (eq-eqb _ _ r)
+
+  -- a condition's number is at most 15
+  pub condition-small : whyOf q n .cause .condition ≤ 15
+  unfolding whyOf
+  condition-small = go (eqb (refusalOn q n) 0)
+    where
+      go : (b : Bool) → cond b (record { refusal = 0; edition = q .edition; cause = firstUnmet (conditionsOn q n) }) (noAnswer (refusalOn q n)) .cause .condition ≤ 15
+      go true = small (conditionsOn q n) numbered
+      go false = omega arith
 
   -- THE REASON IS TRUE, and everything before it in the order holds
   pub first-unmet : whyOf q n .refusal ≡ 0 → (whyOf q n .cause ≡ noCause → ⊥) → First (conditionsOn q n) (whyOf q n .cause)

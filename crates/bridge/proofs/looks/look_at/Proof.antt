@@ -1,17 +1,13 @@
 -- `look_at` meets its contract: the library's look at the query of the bytes, with 1 or 0 for a truth value, or a refusal for another length.
-use mathlib.Core.Bool.{Bool, true, false, cond}
-use mathlib.Core.Path.{_≡_, refl, ap, _∙_}
+use mathlib.Core.Bool.{cond}
+use mathlib.Core.Path.{ap, _∙_}
 use borrow.Author.Needs.{needs}
 use borrow.Author.Tests.{eq-eqb, ne-eqb}
-use mir.Val.{boolByte}
 use Rattle.search.specs.declared.Examined.{Examined}
 use Rattle.bridge.specs.Answers.{bridgeExamined}
+use Rattle.bridge.proofs.Truth.{as-number}
 use Rattle.bridge.proofs.looks.look_at.Statement.{statement}
 use Rattle.bridge.proofs.looks.look_at.Tie as tie
-
-as-number : (b : Bool) → boolByte b ≡ cond b 1 0
-as-number true = refl
-as-number false = refl
 
 query-of-requires : tie.Need-query-of-requires
 query-of-requires c κs = search needs

@@ -1,0 +1,23 @@
+-- `both_arcs` meets its contract: the arcs' numbers in their places, with 1 or 0 for a truth value. Assumes nothing.
+use mathlib.Core.Path.{refl}
+use Rattle.reasons.specs.Reasons.{causeOf}
+use Rattle.bridge.proofs.Truth.{as-number}
+use borrow.Author.Needs.{needs}
+use Rattle.bridge.proofs.whys.both_arcs.Statement.{statement}
+use Rattle.bridge.proofs.whys.both_arcs.Tie as tie
+
+cast-first-given : tie.Need-cast-first-given
+cast-first-given c = search needs
+
+cast-second-given : tie.Need-cast-second-given
+cast-second-given c = search needs
+
+add-t8 : tie.Need-add-t8
+add-t8 c = search needs
+
+returns : tie.Need-returns
+unfolding causeOf
+returns c = record { condition = refl; asked = rw (as-number (c .before .before .before .before .args .asked .first .given), as-number (c .before .before .before .before .args .asked .second .given)); value = refl }
+
+pub both-arcs-spec : {M : Type 1} → statement M
+both-arcs-spec = tie.close (tie.spec cast-first-given cast-second-given add-t8 returns)
