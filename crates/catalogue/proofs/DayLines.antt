@@ -71,10 +71,10 @@ name-short : (n : ℕ) → length (nameAt weekdayNames n) ≤ 9
 unfolding noLonger
 name-short n = name-length 9 weekdayNames refl n
 
-record Small (most : ℕ) (x : Date) : Type 0 where
-  year : x .year ≤ most
-  month : x .month ≤ most
-  day : x .day ≤ most
+pub record Small (most : ℕ) (x : Date) : Type 0 where
+  pub year : x .year ≤ most
+  pub month : x .month ≤ most
+  pub day : x .day ≤ most
 
 next-small : (most : ℕ) (x : Date) → 1582 ≤ most → Small most x → Small (suc most) (next x)
 unfolding next
@@ -91,7 +91,7 @@ next-small most x h s = go (sameDate x lastJulian) (ltb (x .day) (monthDays (x .
     go false false true = omega (arith, s .year, s .month, s .day)
     go false false false = omega (arith, s .year, s .month, s .day)
 
-date-small : (n : ℕ) → Small (1582 + n) (dateOn n)
+pub date-small : (n : ℕ) → Small (1582 + n) (dateOn n)
 unfolding dateOn
 date-small zero = omega arith
 date-small (suc n) = rw (add-suc 1582 n) (next-small (1582 + n) (dateOn n) (omega arith) (date-small n))
@@ -119,7 +119,7 @@ pub line-some : (ed n : ℕ) → 1 ≤ length (dayLine ed n)
 unfolding dayLine
 line-some ed n = simp length-append (omega (arith, digits-some n))
 
-edition-short : (ed : ℕ) → length (editionText ed) ≤ 10
+pub edition-short : (ed : ℕ) → length (editionText ed) ≤ 10
 unfolding editionText
 edition-short ed = go (eqb ed secondEdition)
   where

@@ -30,8 +30,8 @@ fn heading_line(edition: u32, length: u32, examined: u32) -> Line
     named.text(b"\nday date weekday tithi nakshatra yoga karana\n")
 }
 
-// The second edition is named behind the first line.
-fn with_edition(line: Line, edition: u32) -> Line
+// The second edition is named behind a line.
+pub fn with_edition(line: Line, edition: u32) -> Line
     ensures { λ r. ⌜ r ≡ withBytes line (editionText edition) ⌝ }
 {
     if edition == SECOND_EDITION {
@@ -41,7 +41,8 @@ fn with_edition(line: Line, edition: u32) -> Line
     }
 }
 
-fn put_date(line: Line, date: Date) -> Line
+// `YEAR-MONTH-DAY`.
+pub fn put_date(line: Line, date: Date) -> Line
     ensures { λ r. ⌜ r ≡ withBytes line (dateBytes date) ⌝ }
 {
     line.number(date.year)

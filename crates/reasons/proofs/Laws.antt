@@ -21,6 +21,7 @@ use Rattle.search.specs.Days.{matchingDays}
 use Rattle.search.proofs.Laws.{Has, Listed, listed-only, listed-all, listed-matches, matches-listed}
 use Rattle.reasons.specs.Conditions.{Cause, noCause, Condition, arcConditions, conditionsOn, firstUnmet}
 use Rattle.reasons.specs.Reasons.{Numbers, noAnswer, refusalOn, whyOf}
+use Rattle.reasons.proofs.Accepted.{accepted-question}
 
 -- all of some conditions hold
 unfoldable pub allHold : List Condition → Bool
@@ -112,7 +113,7 @@ module _ (q : Query) (n : ℕ) where
       reordered true true true true true true a = sym (and-true a)
 
   -- an answer that is not refused
-  answered : whyOf q n .refusal ≡ 0 → refusalOn q n ≡ 0
+  pub answered : whyOf q n .refusal ≡ 0 → refusalOn q n ≡ 0
   unfolding whyOf
   answered r = go (eqb (refusalOn q n) 0) refl r
     where
@@ -120,9 +121,13 @@ module _ (q : Query) (n : ℕ) where
       go true e h = eqb-true _ _ e
       go false e h = h
 
-  told : refusalOn q n ≡ 0 → whyOf q n ≡ record { refusal = 0; edition = q .edition; cause = firstUnmet (conditionsOn q n) }
+  pub told : refusalOn q n ≡ 0 → whyOf q n ≡ record { refusal = 0; edition = q .edition; cause = firstUnmet (conditionsOn q n) }
   unfolding whyOf
   told r = rw (eq-eqb _ _ r)
+
+  -- it names an edition
+  pub edition-told : whyOf q n .refusal ≡ 0 → isEdition (whyOf q n .edition) ≡ true
+  edition-told r = let a = answered r in rw (told a) (accepted-question q n a .edition)
 
   -- a condition's number is at most 15
   pub condition-small : whyOf q n .cause .condition ≤ 15

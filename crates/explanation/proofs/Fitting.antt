@@ -1,0 +1,167 @@
+-- The line fits: for a query that is not refused what each condition says where it does not hold is short, and so what is said of the first. By the list of the conditions.
+-- Assumes nothing.
+use Prim.Native.Nat.{ℕ, _+_, _≤_, _<_}
+use mathlib.Core.Path.{_≡_, refl, sym, ap, _∙_}
+use mathlib.Core.Bool.{Bool, true, false, cond, _&&_, and-eq-true-iff, true≢false, false≢true}
+use mathlib.Core.List.{List, [], _∷_, _++_, append-assoc}
+use native.Mathlib.Omega.{arith}
+use lib.Dec.{leb, eqb}
+use lib.ListN.{length, length-append}
+use borrow.Author.Tests.{leb-true}
+use Rattle.catalogue.specs.Catalogue.{editionText}
+use Rattle.catalogue.proofs.DayLines.{edition-short}
+use Rattle.days.specs.Days.{lastDay, pairAt, weekdayOn}
+use Rattle.days.specs.Weekdays.{inSet}
+use Rattle.longitudes.specs.Longitudes.{longitudeAt}
+use Rattle.longitudes.proofs.Table.{longitude-small}
+use Rattle.panchanga.specs.OnDays.{tithiAt, nakshatraAt, yogaAt}
+use Rattle.panchanga.proofs.Bounds.{tithi-small, nakshatra-small, yoga-small}
+use Rattle.query.specs.declared.Asked.{Asked}
+use Rattle.query.specs.declared.Weekdays.{Weekdays}
+use Rattle.query.specs.declared.Query.{Query}
+use Rattle.query.specs.Conditions.{meets, weekdayMet, arcsAt, askedInRange, weekdaysInRange, bodyArcsInRange, arcsInRange, conditionsInRange}
+use Rattle.query.proofs.Conditions.{arcs-false}
+use Rattle.query.proofs.Accepted.{accepted-by, each-in-range}
+use Rattle.reasons.specs.Conditions.{Condition, arcNumbers, oneAsked, arcsAsked, arcConditions, conditionsOn, firstUnmet}
+use Rattle.reasons.specs.Reasons.{whyOf}
+use Rattle.reasons.proofs.Accepted.{accepted-question}
+use Rattle.reasons.proofs.Laws.{answered, told}
+use Rattle.text.specs.Ascii.{ascii}
+use Rattle.text.specs.Lines.{lineCapacity}
+use Rattle.text.proofs.Printing.{digits-length}
+use Rattle.words.specs.Names.{weekdayNames}
+use Rattle.words.specs.Words.{nameAt}
+use Rattle.explanation.specs.Explanations.{dayBytes, namesIn, sevenDays, weekdaysText, numbersText, arcsText, causeText, verdictText, answerLine, explanationOf}
+use Rattle.explanation.proofs.Making.{arcs-verdict}
+use Rattle.explanation.proofs.Sizes.{names-short, body-name-short, angle-short, arc-short, day-short}
+
+-- what each of some conditions says where it does not hold is short
+Short : List Condition → Type 0
+Short [] = Unit {0}
+Short (c ∷ cs) = (c .holds ≡ false → length (verdictText (c .cause)) ≤ 98) × Short cs
+
+first-short : (cs : List Condition) → Short cs → length (verdictText (firstUnmet cs)) ≤ 98
+unfolding Short firstUnmet verdictText
+first-short [] h = omega arith
+first-short (c ∷ cs) h = go (c .holds) refl (first-short cs (h .1))
+  where
+    go : (b : Bool) → c .holds ≡ b → length (verdictText (firstUnmet cs)) ≤ 98 → length (verdictText (cond b (firstUnmet cs) (c .cause))) ≤ 98
+    go true e k = k
+    go false e k = h .0 e
+
+-- a number that is not the one asked for: one was asked, and it is in range
+asked-short : (a : Asked) (found largest : ℕ) → askedInRange a largest ≡ true → meets a found ≡ false → a .value ≤ largest
+unfolding askedInRange meets
+asked-short a found largest r e = go (a .given) r e
+  where
+    go : (g : Bool) → cond g (leb (a .value) largest) true ≡ true → cond g (eqb found (a .value)) true ≡ false → a .value ≤ largest
+    go true k f = leb-true _ _ k
+    go false k f = absurd (true≢false f)
+
+not-in-set : (a : Weekdays) (w : ℕ) → weekdayMet a w ≡ false → inSet (a .set) w ≡ false
+unfolding weekdayMet
+not-in-set a w e = go (a .given) e
+  where
+    go : (g : Bool) → cond g (inSet (a .set) w) true ≡ false → inSet (a .set) w ≡ false
+    go true k = k
+    go false k = absurd (true≢false k)
+
+numbers-short : (name : List ℕ) (asked found : ℕ) → length name ≤ 9 → asked ≤ 29 → found < 30 → length (numbersText name asked found) ≤ 27
+unfolding numbersText
+numbers-short name asked found h a f =
+    let one = digits-length 1 asked (omega arith) in
+    let other = digits-length 1 found (omega arith) in
+    simp length-append (omega arith)
+
+-- the conditions are in range, each
+record InRange (q : Query) : Type 0 where
+  tithi : askedInRange (q .tithi) 29 ≡ true
+  nakshatra : askedInRange (q .nakshatra) 26 ≡ true
+  yoga : askedInRange (q .yoga) 26 ≡ true
+  arcs : arcsInRange (q .arcs) ≡ true
+
+each : (q : Query) → conditionsInRange q ≡ true → InRange q
+unfolding conditionsInRange
+each q e =
+    let t = and-eq-true-iff (weekdaysInRange (q .weekdays)) _ .0 e .1 in
+    let n = and-eq-true-iff (askedInRange (q .tithi) 29) _ .0 t in
+    let y = and-eq-true-iff (askedInRange (q .nakshatra) 26) _ .0 (n .1) in
+    let a = and-eq-true-iff (askedInRange (q .yoga) 26) _ .0 (y .1) in
+    record { tithi = n .0; nakshatra = y .0; yoga = a .0; arcs = a .1 }
+
+module _ (q : Query) (n : ℕ) (known : InRange q) (first : q .first ≤ lastDay) (last : q .last ≤ lastDay) where
+  weekday-short : weekdayMet (q .weekdays) (weekdayOn n) ≡ false → length (weekdaysText (q .weekdays .set) (weekdayOn n)) ≤ 76
+  unfolding weekdaysText
+  weekday-short e = simp length-append (omega (arith, names-short (q .weekdays .set) (weekdayOn n) (omega arith) (not-in-set (q .weekdays) (weekdayOn n) e)))
+
+  of-body : (b : ℕ) → b < 9 → bodyArcsInRange (arcsAt (q .arcs) b) ≡ true
+  of-body b l = go (bodyArcsInRange (arcsAt (q .arcs) b)) refl
+    where
+      go : (t : Bool) → bodyArcsInRange (arcsAt (q .arcs) b) ≡ t → bodyArcsInRange (arcsAt (q .arcs) b) ≡ true
+      go true e = e
+      go false e = absurd (true≢false (sym (known .arcs) ∙ arcs-false (q .arcs) b l e))
+
+  arcs-short : (b : ℕ) → b < 9 → length (verdictText (arcsAsked (q .arcs) (pairAt n) b .cause)) ≤ 98
+  arcs-short b l =
+      let in-range = each-in-range (arcsAt (q .arcs) b) (of-body b l) in
+      rw (arcs-verdict b (arcNumbers (arcsAt (q .arcs) b .first) ++ arcNumbers (arcsAt (q .arcs) b .second)) (longitudeAt b (pairAt n)))
+      (unfold arcsText in
+      simp length-append
+      (omega (arith, body-name-short b, arc-short (arcsAt (q .arcs) b .first) (in-range .0), arc-short (arcsAt (q .arcs) b .second) (in-range .1), angle-short (longitudeAt b (pairAt n)) (omega (arith, longitude-small b (pairAt n))))))
+
+  all-short : Short (conditionsOn q n)
+  unfolding Short conditionsOn arcConditions verdictText causeText
+  all-short = (
+    λ e. simp length-append (omega (arith, day-short (q .first) first)),
+    (
+      λ e. simp length-append (omega (arith, day-short (q .last) last)),
+      (
+        λ e. simp length-append (omega (arith, weekday-short e)),
+        (
+          λ e. simp length-append (omega (arith, numbers-short (ascii "tithi") (q .tithi .value) (tithiAt (q .edition) (pairAt n)) (omega arith) (omega (arith, asked-short (q .tithi) (tithiAt (q .edition) (pairAt n)) 29 (known .tithi) e)) (omega (arith, tithi-small (q .edition) (pairAt n))))),
+          (
+            λ e. simp length-append (omega (arith, numbers-short (ascii "nakshatra") (q .nakshatra .value) (nakshatraAt (q .edition) (pairAt n)) (omega arith) (omega (arith, asked-short (q .nakshatra) (nakshatraAt (q .edition) (pairAt n)) 26 (known .nakshatra) e)) (omega (arith, nakshatra-small (q .edition) (pairAt n))))),
+            (
+              λ e. simp length-append (omega (arith, numbers-short (ascii "yoga") (q .yoga .value) (yogaAt (q .edition) (pairAt n)) (omega arith) (omega (arith, asked-short (q .yoga) (yogaAt (q .edition) (pairAt n)) 26 (known .yoga) e)) (omega (arith, yoga-small (q .edition) (pairAt n))))),
+              (
+                λ e. arcs-short 0 (omega arith),
+                (
+                  λ e. arcs-short 1 (omega arith),
+                  (
+                    λ e. arcs-short 2 (omega arith),
+                    (
+                      λ e. arcs-short 3 (omega arith),
+                      (
+                        λ e. arcs-short 4 (omega arith),
+                        (
+                          λ e. arcs-short 5 (omega arith),
+                          (
+                            λ e. arcs-short 6 (omega arith),
+                            (
+                              λ e. arcs-short 7 (omega arith),
+                              (
+                                λ e. arcs-short 8 (omega arith),
+                                tt,
+                              ),
+                            ),
+                          ),
+                        ),
+                      ),
+                    ),
+                  ),
+                ),
+              ),
+            ),
+          ),
+        ),
+      ),
+    ),
+  )
+
+pub explanation-fits : (q : Query) (n : ℕ) → whyOf q n .refusal ≡ 0 → length (explanationOf q n) ≤ lineCapacity
+unfolding answerLine
+explanation-fits q n r =
+    let a = accepted-question q n (answered q n r) in
+    let by = accepted-by q (a .query) in
+    let verdict = first-short (conditionsOn q n) (all-short q n (each q (by .conditions)) (omega (arith, by .first, by .last)) (by .last)) in
+    rw (told q n (answered q n r)) (simp length-append (omega (arith, day-short n (a .day), verdict, edition-short (q .edition))))

@@ -1,0 +1,5 @@
+mod Naming
+mod Making
+mod Sizes
+pub mod Fitting
+mod Answers

@@ -1,0 +1,59 @@
+-- `put_arcs` meets its contract: what is put one after another is put at once. Assumes nothing.
+use Rattle.words.specs.Words.{pieces, isSeparator, inFront}
+use Rattle.explanation.proofs.Making.{arcs-made}
+use borrow.Author.Needs.{needs}
+use Rattle.explanation.proofs.put_arcs.Statement.{statement}
+use Rattle.explanation.proofs.put_arcs.Tie as tie
+
+slice-aggregate-name-at : tie.Need-slice-aggregate-name-at
+slice-aggregate-name-at c = search needs
+
+name-at-requires : tie.Need-name-at-requires
+name-at-requires c κs = search needs
+
+text-requires : tie.Need-text-requires
+text-requires c κs = search needs
+
+slice-aggregate-text : tie.Need-slice-aggregate-text
+slice-aggregate-text c = search needs
+
+text-requires-2 : tie.Need-text-requires-2
+text-requires-2 c κs = search needs
+
+put-arc-requires : tie.Need-put-arc-requires
+put-arc-requires c κs = search needs
+
+put-arc-requires-2 : tie.Need-put-arc-requires-2
+put-arc-requires-2 c κs = search needs
+
+slice-aggregate-text-2 : tie.Need-slice-aggregate-text-2
+slice-aggregate-text-2 c = search needs
+
+text-requires-3 : tie.Need-text-requires-3
+text-requires-3 c κs = search needs
+
+put-angle-requires : tie.Need-put-angle-requires
+put-angle-requires c κs = search needs
+
+returns : tie.Need-returns
+unfolding pieces isSeparator inFront
+returns c =
+    let a = c .before .before .before .before .before .before .before .before .before .before .args in
+    rw (c .put-angle .ensures, c .before .text3 .ensures, c .before .before .before .put-arc2 .ensures, c .before .before .before .before .put-arc .ensures, c .before .before .before .before .before .text2 .ensures, c .before .before .before .before .before .before .before .text .ensures)
+    (arcs-made _ (a .body) (a .asked) (a .found) (c .before .before .before .before .before .before .before .before .name-at .ensures))
+
+pub put-arcs-spec : {M : Type 1} → statement M
+put-arcs-spec =
+    tie.close
+    (tie.spec
+    slice-aggregate-name-at
+    name-at-requires
+    text-requires
+    slice-aggregate-text
+    text-requires-2
+    put-arc-requires
+    put-arc-requires-2
+    slice-aggregate-text-2
+    text-requires-3
+    put-angle-requires
+    returns)
