@@ -206,7 +206,8 @@ fn rank(number: u32) -> u32
     }
 }
 
-fn ranks_before(one: u32, other: u32) -> bool
+// Whether one refusal comes before another in that order.
+pub fn ranks_before(one: u32, other: u32) -> bool
     ensures { λ r. ⌜ r ≡ ranksBefore one other ⌝ }
 {
     rank(one) < rank(other)

@@ -1,0 +1,82 @@
+-- `read_and_answer` is safe and ends: the number of a line at fault fits. Assumes nothing.
+use native.Mathlib.Omega.{arith}
+use Rattle.why.proofs.Lines.{small-number}
+use borrow.Author.Needs.{needs}
+use Rattle.why.proofs.read_and_answer.Statement.{statement}
+use Rattle.why.proofs.read_and_answer.Tie as tie
+
+read-input-requires : tie.Need-read-input-requires
+read-input-requires c κs = search needs
+
+refusal-line-requires : tie.Need-refusal-line-requires
+refusal-line-requires c κs = search needs
+
+print-requires : tie.Need-print-requires
+print-requires c κs = search needs
+
+unreadable-page-requires : tie.Need-unreadable-page-requires
+unreadable-page-requires c κs = search needs
+
+say-requires : tie.Need-say-requires
+say-requires c κs = search needs
+
+same-length : tie.Need-same-length
+same-length c = search needs
+
+returns : tie.Need-returns
+returns c = search needs
+
+slice-reshare-prefix-read : tie.Need-slice-reshare-prefix-read
+slice-reshare-prefix-read c = search needs
+
+slice-aggregate-read : tie.Need-slice-aggregate-read
+slice-aggregate-read c = search needs
+
+read-requires : tie.Need-read-requires
+read-requires c κs = search needs
+
+refuse-requires : tie.Need-refuse-requires
+refuse-requires c κs =
+    let got = c .before .before .before .before .before .before .before in
+    small-number _ _ (c .before .before .read .ensures)
+    (omega (arith, got .read-input .ensures .0, got .read-input .ensures .1, got .read-input .kept .0, got .before .before .before .pre))
+
+same-length-2 : tie.Need-same-length-2
+same-length-2 c = search needs
+
+returns-2 : tie.Need-returns-2
+returns-2 c = search needs
+
+line-requires : tie.Need-line-requires
+line-requires c κs = search needs
+
+print-requires-2 : tie.Need-print-requires-2
+print-requires-2 c κs = search needs
+
+same-length-3 : tie.Need-same-length-3
+same-length-3 c = search needs
+
+returns-3 : tie.Need-returns-3
+returns-3 c = search needs
+
+pub read-and-answer-spec : {M : Type 1} → statement M
+read-and-answer-spec =
+    tie.close
+    (tie.spec
+    read-input-requires
+    refusal-line-requires
+    print-requires
+    unreadable-page-requires
+    say-requires
+    same-length
+    returns
+    slice-reshare-prefix-read
+    slice-aggregate-read
+    read-requires
+    refuse-requires
+    same-length-2
+    returns-2
+    line-requires
+    print-requires-2
+    same-length-3
+    returns-3)
