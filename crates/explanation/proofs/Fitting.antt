@@ -2,13 +2,12 @@
 -- Assumes nothing.
 use Prim.Native.Nat.{ℕ, _+_, _≤_, _<_}
 use mathlib.Core.Path.{_≡_, refl, sym, ap, _∙_}
-use mathlib.Core.Bool.{Bool, true, false, cond, _&&_, and-eq-true-iff, true≢false, false≢true}
-use mathlib.Core.List.{List, [], _∷_, _++_, append-assoc}
+use mathlib.Core.Bool.{Bool, true, false, cond, _&&_, and-eq-true-iff, true≢false}
+use mathlib.Core.List.{List, [], _∷_, _++_}
 use native.Mathlib.Omega.{arith}
-use lib.Dec.{leb, eqb}
+use lib.Dec.{ltb, leb, eqb}
 use lib.ListN.{length, length-append}
-use borrow.Author.Tests.{leb-true}
-use Rattle.catalogue.specs.Catalogue.{editionText}
+use borrow.Author.Tests.{ltb-true, leb-true}
 use Rattle.catalogue.proofs.DayLines.{edition-short}
 use Rattle.days.specs.Days.{lastDay, pairAt, weekdayOn}
 use Rattle.days.specs.Weekdays.{inSet}
@@ -22,16 +21,14 @@ use Rattle.query.specs.declared.Query.{Query}
 use Rattle.query.specs.Conditions.{meets, weekdayMet, arcsAt, askedInRange, weekdaysInRange, bodyArcsInRange, arcsInRange, conditionsInRange}
 use Rattle.query.proofs.Conditions.{arcs-false}
 use Rattle.query.proofs.Accepted.{accepted-by, each-in-range}
-use Rattle.reasons.specs.Conditions.{Condition, arcNumbers, oneAsked, arcsAsked, arcConditions, conditionsOn, firstUnmet}
+use Rattle.reasons.specs.Conditions.{Condition, arcNumbers, arcsAsked, arcConditions, everyBody, conditionsOn, firstUnmet}
 use Rattle.reasons.specs.Reasons.{whyOf}
 use Rattle.reasons.proofs.Accepted.{accepted-question}
 use Rattle.reasons.proofs.Laws.{answered, told}
 use Rattle.text.specs.Ascii.{ascii}
 use Rattle.text.specs.Lines.{lineCapacity}
 use Rattle.text.proofs.Printing.{digits-length}
-use Rattle.words.specs.Names.{weekdayNames}
-use Rattle.words.specs.Words.{nameAt}
-use Rattle.explanation.specs.Explanations.{dayBytes, namesIn, sevenDays, weekdaysText, numbersText, arcsText, causeText, verdictText, answerLine, explanationOf}
+use Rattle.explanation.specs.Explanations.{weekdaysText, numbersText, arcsText, causeText, verdictText, answerLine, explanationOf}
 use Rattle.explanation.proofs.Making.{arcs-verdict}
 use Rattle.explanation.proofs.Sizes.{names-short, body-name-short, angle-short, arc-short, day-short}
 
@@ -73,6 +70,11 @@ numbers-short name asked found h a f =
     let other = digits-length 1 found (omega arith) in
     simp length-append (omega arith)
 
+-- some numbers are those of bodies
+allBodies : List ℕ → Bool
+allBodies [] = true
+allBodies (b ∷ bs) = ltb b 9 && allBodies bs
+
 -- the conditions are in range, each
 record InRange (q : Query) : Type 0 where
   tithi : askedInRange (q .tithi) 29 ≡ true
@@ -90,9 +92,38 @@ each q e =
     record { tithi = n .0; nakshatra = y .0; yoga = a .0; arcs = a .1 }
 
 module _ (q : Query) (n : ℕ) (known : InRange q) (first : q .first ≤ lastDay) (last : q .last ≤ lastDay) where
-  weekday-short : weekdayMet (q .weekdays) (weekdayOn n) ≡ false → length (weekdaysText (q .weekdays .set) (weekdayOn n)) ≤ 76
-  unfolding weekdaysText
-  weekday-short e = simp length-append (omega (arith, names-short (q .weekdays .set) (weekdayOn n) (omega arith) (not-in-set (q .weekdays) (weekdayOn n) e)))
+  first-said : length (verdictText (record { condition = 1; asked = q .first ∷ []; found = n })) ≤ 98
+  unfolding verdictText causeText
+  first-said = simp length-append (omega (arith, day-short (q .first) first))
+
+  last-said : length (verdictText (record { condition = 2; asked = q .last ∷ []; found = n })) ≤ 98
+  unfolding verdictText causeText
+  last-said = simp length-append (omega (arith, day-short (q .last) last))
+
+  weekday-said : weekdayMet (q .weekdays) (weekdayOn n) ≡ false → length (verdictText (record { condition = 3; asked = q .weekdays .set ∷ []; found = weekdayOn n })) ≤ 98
+  unfolding verdictText causeText weekdaysText
+  weekday-said e = simp length-append (omega (arith, names-short (q .weekdays .set) (weekdayOn n) (omega arith) (not-in-set (q .weekdays) (weekdayOn n) e)))
+
+  tithi-said : meets (q .tithi) (tithiAt (q .edition) (pairAt n)) ≡ false → length (verdictText (record { condition = 4; asked = q .tithi .value ∷ []; found = tithiAt (q .edition) (pairAt n) })) ≤ 98
+  unfolding verdictText causeText
+  tithi-said e =
+      let found = tithiAt (q .edition) (pairAt n) in
+      let asked = asked-short (q .tithi) found 29 (known .tithi) e in
+      simp length-append (omega (arith, numbers-short (ascii "tithi") (q .tithi .value) found (omega arith) (omega arith) (omega (arith, tithi-small (q .edition) (pairAt n)))))
+
+  nakshatra-said : meets (q .nakshatra) (nakshatraAt (q .edition) (pairAt n)) ≡ false → length (verdictText (record { condition = 5; asked = q .nakshatra .value ∷ []; found = nakshatraAt (q .edition) (pairAt n) })) ≤ 98
+  unfolding verdictText causeText
+  nakshatra-said e =
+      let found = nakshatraAt (q .edition) (pairAt n) in
+      let asked = asked-short (q .nakshatra) found 26 (known .nakshatra) e in
+      simp length-append (omega (arith, numbers-short (ascii "nakshatra") (q .nakshatra .value) found (omega arith) (omega arith) (omega (arith, nakshatra-small (q .edition) (pairAt n)))))
+
+  yoga-said : meets (q .yoga) (yogaAt (q .edition) (pairAt n)) ≡ false → length (verdictText (record { condition = 6; asked = q .yoga .value ∷ []; found = yogaAt (q .edition) (pairAt n) })) ≤ 98
+  unfolding verdictText causeText
+  yoga-said e =
+      let found = yogaAt (q .edition) (pairAt n) in
+      let asked = asked-short (q .yoga) found 26 (known .yoga) e in
+      simp length-append (omega (arith, numbers-short (ascii "yoga") (q .yoga .value) found (omega arith) (omega arith) (omega (arith, yoga-small (q .edition) (pairAt n)))))
 
   of-body : (b : ℕ) → b < 9 → bodyArcsInRange (arcsAt (q .arcs) b) ≡ true
   of-body b l = go (bodyArcsInRange (arcsAt (q .arcs) b)) refl
@@ -109,54 +140,16 @@ module _ (q : Query) (n : ℕ) (known : InRange q) (first : q .first ≤ lastDay
       simp length-append
       (omega (arith, body-name-short b, arc-short (arcsAt (q .arcs) b .first) (in-range .0), arc-short (arcsAt (q .arcs) b .second) (in-range .1), angle-short (longitudeAt b (pairAt n)) (omega (arith, longitude-small b (pairAt n))))))
 
+  bodies-short : (bodies : List ℕ) → allBodies bodies ≡ true → Short (arcConditions (q .arcs) (pairAt n) bodies)
+  unfolding Short arcConditions allBodies
+  bodies-short [] h = tt
+  bodies-short (b ∷ bs) h =
+      let both = and-eq-true-iff (ltb b 9) (allBodies bs) .0 h in
+      (λ _. arcs-short b (ltb-true b 9 (both .0)), bodies-short bs (both .1))
+
   all-short : Short (conditionsOn q n)
-  unfolding Short conditionsOn arcConditions verdictText causeText
-  all-short = (
-    λ e. simp length-append (omega (arith, day-short (q .first) first)),
-    (
-      λ e. simp length-append (omega (arith, day-short (q .last) last)),
-      (
-        λ e. simp length-append (omega (arith, weekday-short e)),
-        (
-          λ e. simp length-append (omega (arith, numbers-short (ascii "tithi") (q .tithi .value) (tithiAt (q .edition) (pairAt n)) (omega arith) (omega (arith, asked-short (q .tithi) (tithiAt (q .edition) (pairAt n)) 29 (known .tithi) e)) (omega (arith, tithi-small (q .edition) (pairAt n))))),
-          (
-            λ e. simp length-append (omega (arith, numbers-short (ascii "nakshatra") (q .nakshatra .value) (nakshatraAt (q .edition) (pairAt n)) (omega arith) (omega (arith, asked-short (q .nakshatra) (nakshatraAt (q .edition) (pairAt n)) 26 (known .nakshatra) e)) (omega (arith, nakshatra-small (q .edition) (pairAt n))))),
-            (
-              λ e. simp length-append (omega (arith, numbers-short (ascii "yoga") (q .yoga .value) (yogaAt (q .edition) (pairAt n)) (omega arith) (omega (arith, asked-short (q .yoga) (yogaAt (q .edition) (pairAt n)) 26 (known .yoga) e)) (omega (arith, yoga-small (q .edition) (pairAt n))))),
-              (
-                λ e. arcs-short 0 (omega arith),
-                (
-                  λ e. arcs-short 1 (omega arith),
-                  (
-                    λ e. arcs-short 2 (omega arith),
-                    (
-                      λ e. arcs-short 3 (omega arith),
-                      (
-                        λ e. arcs-short 4 (omega arith),
-                        (
-                          λ e. arcs-short 5 (omega arith),
-                          (
-                            λ e. arcs-short 6 (omega arith),
-                            (
-                              λ e. arcs-short 7 (omega arith),
-                              (
-                                λ e. arcs-short 8 (omega arith),
-                                tt,
-                              ),
-                            ),
-                          ),
-                        ),
-                      ),
-                    ),
-                  ),
-                ),
-              ),
-            ),
-          ),
-        ),
-      ),
-    ),
-  )
+  unfolding Short conditionsOn allBodies
+  all-short = (λ _. first-said, (λ _. last-said, (weekday-said, (tithi-said, (nakshatra-said, (yoga-said, bodies-short everyBody refl))))))
 
 pub explanation-fits : (q : Query) (n : ℕ) → whyOf q n .refusal ≡ 0 → length (explanationOf q n) ≤ lineCapacity
 unfolding answerLine

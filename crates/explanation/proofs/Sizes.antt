@@ -18,7 +18,6 @@ use Rattle.days.specs.Weekdays.{inSet}
 use Rattle.query.specs.declared.Arc.{Arc}
 use Rattle.query.specs.Conditions.{arcInRange}
 use Rattle.text.specs.Ascii.{ascii}
-use Rattle.text.specs.Decimal.{digitsOf}
 use Rattle.text.proofs.Printing.{digits-length}
 use Rattle.words.specs.Names.{weekdayNames, bodyNames}
 use Rattle.words.specs.Words.{nameAt}

@@ -3,12 +3,12 @@
 -- Assumes nothing.
 use Prim.Native.Nat.{ℕ, _≤_, _<_}
 use mathlib.Core.Path.{_≡_, refl, sym, ap, _∙_}
-use mathlib.Core.Bool.{Bool, true, false, cond, _&&_, and-true, and-false, false≢true}
+use mathlib.Core.Bool.{Bool, true, false, cond, _&&_, and-true, and-false, and-eq-true-iff, false≢true}
 use mathlib.Core.List.{List, [], _∷_, _++_}
 use mathlib.Core.Logic.{_⊎_, inl, inr}
 use native.Mathlib.Omega.{arith}
 use lib.Dec.{leb, eqb}
-use borrow.Author.Tests.{eqb-true, eqb-false, eq-eqb, le-leb}
+use borrow.Author.Tests.{eqb-true, eq-eqb, leb-true, le-leb}
 use Rattle.days.specs.Days.{lastDay, pairAt, weekdayOn}
 use Rattle.panchanga.specs.TrueLongitudes.{isEdition}
 use Rattle.panchanga.specs.OnDays.{tithiAt, nakshatraAt, yogaAt}
@@ -18,7 +18,7 @@ use Rattle.query.specs.Query.{conditionsMet, matches, refusalOf}
 use Rattle.query.proofs.Accepted.{accepted-by}
 use Rattle.search.specs.Look.{nextDay, notExamined, examinedOf}
 use Rattle.search.specs.Days.{matchingDays}
-use Rattle.search.proofs.Laws.{Has, Listed, listed-only, listed-all, listed-matches, matches-listed}
+use Rattle.search.proofs.Laws.{Has, listed-only, listed-all, listed-matches, matches-listed}
 use Rattle.reasons.specs.Conditions.{Cause, noCause, Condition, arcConditions, conditionsOn, firstUnmet}
 use Rattle.reasons.specs.Reasons.{Numbers, noAnswer, refusalOn, whyOf}
 use Rattle.reasons.proofs.Accepted.{accepted-question}
@@ -58,7 +58,7 @@ first-or-none (c ∷ cs) = go (c .holds) refl (first-or-none cs)
         })
     go false e deeper = inr (record { before = []; unmet = c; behind = cs; order = refl; earlier-hold = refl; is-true = e; named = refl })
 
--- where all hold, nothing shuts the day out; where nothing does, all hold, since each condition has a number
+-- where all hold, nothing shuts the day out
 pub none-unmet : (cs : List Condition) → allHold cs ≡ true → firstUnmet cs ≡ noCause
 unfolding allHold firstUnmet
 none-unmet [] h = refl
@@ -68,33 +68,46 @@ none-unmet (c ∷ cs) h = go (c .holds) h (λ k. none-unmet cs k)
     go true k deeper = deeper k
     go false k deeper = absurd (false≢true k)
 
-Numbered : List Condition → Type 0
-Numbered [] = Unit {0}
-Numbered (c ∷ cs) = (0 < c .cause .condition) × (c .cause .condition ≤ 15) × Numbered cs
+-- where nothing does, all hold, since each condition has a number, from 1 to 15: one test over them all
+allNumbered : List Condition → Bool
+allNumbered [] = true
+allNumbered (c ∷ cs) = (leb 1 (c .cause .condition) && leb (c .cause .condition) 15) && allNumbered cs
 
-all-met : (cs : List Condition) → Numbered cs → firstUnmet cs .condition ≡ 0 → allHold cs ≡ true
-unfolding allHold firstUnmet Numbered
+record Numbered (c : Condition) (cs : List Condition) : Type 0 where
+  low : 1 ≤ c .cause .condition
+  high : c .cause .condition ≤ 15
+  others : allNumbered cs ≡ true
+
+each-numbered : (c : Condition) (cs : List Condition) → allNumbered (c ∷ cs) ≡ true → Numbered c cs
+unfolding allNumbered
+each-numbered c cs e =
+    let k = c .cause .condition in
+    let both = and-eq-true-iff (leb 1 k && leb k 15) (allNumbered cs) .0 e in
+    let ends = and-eq-true-iff (leb 1 k) (leb k 15) .0 (both .0) in
+    record { low = leb-true 1 k (ends .0); high = leb-true k 15 (ends .1); others = both .1 }
+
+all-met : (cs : List Condition) → allNumbered cs ≡ true → firstUnmet cs .condition ≡ 0 → allHold cs ≡ true
+unfolding allHold firstUnmet
 all-met [] k h = refl
-all-met (c ∷ cs) k h = go (c .holds) h (λ e. all-met cs (k .2) e)
+all-met (c ∷ cs) k h = let known = each-numbered c cs k in go (c .holds) (known .low) h (λ e. all-met cs (known .others) e)
   where
-    go : (b : Bool) → cond b (firstUnmet cs) (c .cause) .condition ≡ 0 → (firstUnmet cs .condition ≡ 0 → allHold cs ≡ true) → (b && allHold cs) ≡ true
-    go true e deeper = deeper e
-    go false e deeper = absurd (omega (arith, k .0))
+    go : (b : Bool) → 1 ≤ c .cause .condition → cond b (firstUnmet cs) (c .cause) .condition ≡ 0 → (firstUnmet cs .condition ≡ 0 → allHold cs ≡ true) → (b && allHold cs) ≡ true
+    go true l e deeper = deeper e
+    go false l e deeper = absurd (omega arith)
 
-small : (cs : List Condition) → Numbered cs → firstUnmet cs .condition ≤ 15
-unfolding firstUnmet Numbered
+small : (cs : List Condition) → allNumbered cs ≡ true → firstUnmet cs .condition ≤ 15
+unfolding firstUnmet
 small [] k = omega arith
-small (c ∷ cs) k = go (c .holds) (small cs (k .2))
+small (c ∷ cs) k = let known = each-numbered c cs k in go (c .holds) (known .high) (small cs (known .others))
   where
-    go : (b : Bool) → firstUnmet cs .condition ≤ 15 → cond b (firstUnmet cs) (c .cause) .condition ≤ 15
-    go true h = h
-    go false h = k .1
+    go : (b : Bool) → c .cause .condition ≤ 15 → firstUnmet cs .condition ≤ 15 → cond b (firstUnmet cs) (c .cause) .condition ≤ 15
+    go true l h = h
+    go false l h = l
 
 module _ (q : Query) (n : ℕ) where
-  numbered : Numbered (conditionsOn q n)
-  unfolding Numbered conditionsOn arcConditions
-  numbered =
-      (omega arith, omega arith, (omega arith, omega arith, (omega arith, omega arith, (omega arith, omega arith, (omega arith, omega arith, (omega arith, omega arith, (omega arith, omega arith, (omega arith, omega arith, (omega arith, omega arith, (omega arith, omega arith, (omega arith, omega arith, (omega arith, omega arith, (omega arith, omega arith, (omega arith, omega arith, (omega arith, omega arith, tt)))))))))))))))
+  numbered : allNumbered (conditionsOn q n) ≡ true
+  unfolding allNumbered conditionsOn arcConditions
+  numbered = refl
 
   -- all conditions together, in whatever order, are what makes a day match
   all-together : allHold (conditionsOn q n) ≡ matches q n

@@ -6,7 +6,7 @@ use mathlib.Core.Bool.{Bool, true, false, not}
 use mathlib.Core.List.{List, [], _∷_}
 use borrow.Author.Tests.{not-true, not-false}
 use Rattle.reasons.specs.declared.Tested.{Tested}
-use Rattle.reasons.specs.Conditions.{Cause, Condition, oneAsked, firstUnmet}
+use Rattle.reasons.specs.Conditions.{Condition, oneAsked, firstUnmet}
 use Rattle.reasons.specs.Parts.{TestedFor}
 
 pub next : (c : Condition) (cs : List Condition) → c .holds ≡ true → firstUnmet cs ≡ firstUnmet (c ∷ cs)

@@ -1,8 +1,8 @@
 -- How the test of a condition comes out: one that is not given holds, and of one that is given the value found decides.
 -- Assumes nothing.
 use Prim.Native.Nat.{ℕ}
-use mathlib.Core.Path.{_≡_, sym}
-use mathlib.Core.Bool.{Bool, true, false, cond, true≢false}
+use mathlib.Core.Path.{_≡_}
+use mathlib.Core.Bool.{Bool, true, false, true≢false}
 use lib.Dec.{eqb}
 use Rattle.days.specs.Weekdays.{inSet}
 use Rattle.query.specs.declared.Asked.{Asked}

@@ -3,7 +3,6 @@ use borrow.Author.Needs.{needs}
 use borrow.Author.Tests.{not-true, not-false, le-leb, lt-leb}
 use mathlib.Core.Bool.{true}
 use mathlib.Core.Path.{_≡_, sym, _∙_}
-use native.Mathlib.Omega.{arith}
 use Rattle.panchanga.specs.TrueLongitudes.{isEdition}
 use Rattle.reasons.specs.Reasons.{refusalOn}
 use Rattle.reasons.proofs.refusal_on.Statement.{statement}

@@ -1,7 +1,7 @@
 -- `why` meets its contract: refused where the question is, else the first condition that is not met, in the query's edition. Assumes nothing.
 use borrow.Author.Needs.{needs}
 use borrow.Author.Tests.{eq-eqb, ne-eqb}
-use mathlib.Core.Path.{_≡_, sym, ap, _∙_}
+use mathlib.Core.Path.{_≡_, sym, _∙_}
 use Rattle.reasons.specs.Reasons.{refusalOn, whyOf, numbersOf}
 use Rattle.reasons.proofs.Accepted.{accepted-question}
 use Rattle.reasons.proofs.why.Statement.{statement}
