@@ -1,7 +1,7 @@
 -- The laws of the reason: the condition that is named does not hold, all before it in the order do, and a day fits if and only if the search lists it. By induction
 -- on the conditions, and since all of them together are what makes a day match.
 -- Assumes nothing.
-use Prim.Native.Nat.{ℕ, _≤_, _<_}
+use Prim.Native.Nat.{ℕ, _≤_}
 use mathlib.Core.Path.{_≡_, refl, sym, ap, _∙_}
 use mathlib.Core.Bool.{Bool, true, false, cond, _&&_, and-true, and-false, and-eq-true-iff, false≢true}
 use mathlib.Core.List.{List, [], _∷_, _++_}

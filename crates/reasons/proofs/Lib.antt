@@ -3,3 +3,4 @@ mod Bodies
 mod Order
 pub mod Accepted
 pub mod Laws
+pub mod Apart

@@ -1,0 +1,38 @@
+-- From the bytes of the input to the bytes that are printed, and to those that are said on standard error.
+-- Assumes nothing.
+use mathlib.Core.Bool.{cond}
+use mathlib.Core.List.{List, []}
+use Prim.Native.Nat.{ℕ}
+use lib.Dec.{ltb, eqb}
+use lib.ListN.{length}
+use Rattle.days.specs.Refusals.{accepted, badInput}
+use Rattle.explanation.specs.Explanations.{explanationOf}
+use Rattle.messages.specs.Messages.{faultLine, unreadablePage}
+use Rattle.question.specs.declared.Question.{Question}
+use Rattle.question.specs.Questions.{questionRead}
+use Rattle.text.specs.Lines.{Holds, refusalLine}
+use Rattle.reply.specs.declared.Reply.{Reply}
+
+-- a text has fewer bytes
+abbrev pub tooLong : ℕ
+tooLong = 524288
+
+-- for what was read: the line that says why, or the refusal; and with a refusal which line is at fault
+unfoldable pub printedOf : Question → List ℕ
+printedOf q = cond (eqb (q .refusal) accepted) (explanationOf (q .query) (q .day)) (refusalLine (q .refusal))
+
+unfoldable pub saidOf : Question → List ℕ
+saidOf q = cond (eqb (q .refusal) accepted) [] (faultLine (q .line) (q .refusal) (q .reason))
+
+-- ALL THAT IS PRINTED for an input
+unfoldable pub printedFor : List ℕ → List ℕ
+printedFor input = cond (ltb (length input) tooLong) (printedOf (questionRead input)) (refusalLine badInput)
+
+-- all that is said
+unfoldable pub saidFor : List ℕ → List ℕ
+saidFor input = cond (ltb (length input) tooLong) (saidOf (questionRead input)) unreadablePage
+
+-- a reply that has these bytes to print and to say
+pub record Replied (printed said : List ℕ) (reply : Reply) : Type 0 where
+  pub on-output : Holds (reply .printed) printed
+  pub on-error : Holds (reply .said) said

@@ -1,0 +1,43 @@
+// What the program `why` replies to its input: a day and a page in, a line out.
+use days::refusal;
+use question::Question;
+use text::Line;
+ghost use Prim.Native.Nat.{_<_};
+ghost use Rattle.reply.specs.Replies.{printedOf, saidOf, printedFor, saidFor, Replied};
+
+// A text has fewer bytes, as a page for `find` has.
+pub const TOO_LONG: usize = 524288;
+
+// The line for standard output, and the one for standard error, which is empty where nothing is at fault.
+pub struct Reply {
+    pub printed: Line,
+    pub said: Line,
+}
+
+fn to_question(read: Question) -> Reply
+    requires { ⌜ read .line < 4294967296 ⌝ }
+    ensures { λ r. ⌜ Replied (printedOf read) (saidOf read) r ⌝ }
+{
+    if read.refusal == refusal::NONE {
+        let query = read.query;
+        let printed = explanation::line(query, read.day);
+        let said = Line::empty();
+        return Reply { printed, said };
+    }
+    let printed = text::refusal_line(read.refusal);
+    let line = read.line as u32;
+    let said = messages::page_fault(line, read.refusal, read.reason);
+    Reply { printed, said }
+}
+
+// The reply to an input. One that fills the buffer is longer, or could not be read to its end.
+pub fn to_input(input: &[u8]) -> Reply
+    ensures { λ r. ⌜ Replied (printedFor (now (input .entry))) (saidFor (now (input .entry))) r ⌝ }
+{
+    if TOO_LONG <= input.len() {
+        let printed = text::refusal_line(refusal::BAD_INPUT);
+        let said = messages::unreadable_page();
+        return Reply { printed, said };
+    }
+    to_question(question::read(input))
+}
