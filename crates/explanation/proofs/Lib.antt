@@ -3,3 +3,4 @@ mod Making
 mod Sizes
 pub mod Fitting
 mod Answers
+pub mod Worked

@@ -1,0 +1,84 @@
+-- Worked cases: a line for each case of the answer, from the meanings. Both sides compute, so that `refl` proves them.
+-- Assumes nothing.
+use Prim.Native.Nat.{ℕ}
+use mathlib.Core.Path.{_≡_, refl}
+use mathlib.Core.Bool.{true}
+use mathlib.Core.List.{List, [], _∷_}
+use lib.ListN.{set, replicate}
+use Rattle.catalogue.specs.Catalogue.{editionText, dateBytes}
+use Rattle.civil.specs.Calendar.{leap, monthDays, sameDate, next, dateOn}
+use Rattle.civil.specs.Answers.{dateOfDay}
+use Rattle.days.specs.Weekdays.{inSet}
+use Rattle.integers.specs.Integers.{floorOver, reduced}
+use Rattle.longitudes.specs.Longitudes.{differenceOf, table, meanLongitude, longitudeAt}
+use Rattle.panchanga.specs.TrueLongitudes.{bhuja, equation, signed, corrected, trueLongitude, isEdition, trueMoon}
+use Rattle.panchanga.specs.OnDays.{trueSunAt, trueMoonAt, tithiAt, nakshatraAt, yogaAt}
+use Rattle.query.specs.declared.Asked.{Asked}
+use Rattle.query.specs.declared.Arc.{Arc}
+use Rattle.query.specs.declared.Weekdays.{Weekdays}
+use Rattle.query.specs.declared.BodyArcs.{BodyArcs}
+use Rattle.query.specs.declared.Query.{Query}
+use Rattle.query.specs.Conditions.{notAsked, noWeekdays, noArcs, onlyWeekday, onlyArc, meets, weekdayMet, givenArcs, inArc, inSome, inArcs, askedInRange, weekdaysInRange, arcInRange, bodyArcsInRange, arcsInRange, conditionsInRange}
+use Rattle.query.specs.Query.{refusalOf}
+use Rattle.reasons.specs.Conditions.{arcConditions, conditionsOn, firstUnmet}
+use Rattle.reasons.specs.Reasons.{refusalOn, whyOf}
+use Rattle.text.specs.Ascii.{ascii}
+use Rattle.text.specs.Decimal.{digitsWithin, digitsOf}
+use Rattle.text.specs.Lines.{refusalLine}
+use Rattle.words.specs.Words.{nameAt}
+use Rattle.explanation.specs.Explanations.{dayBytes, angleBytes, nameIn, namesIn, arcBytes, weekdaysText, numbersText, arcsText, causeText, verdictText, answerLine, explanationOf}
+
+-- a query of a span in an edition
+abbrev asking : ℕ → ℕ → ℕ → Weekdays → Asked → Asked → Asked → List BodyArcs → Query
+asking first last edition weekdays tithi nakshatra yoga arcs =
+    record { first = first; last = last; edition = edition; weekdays = weekdays; tithi = tithi; nakshatra = nakshatra; yoga = yoga; arcs = arcs }
+
+abbrev number : ℕ → Asked
+number n = record { given = true; value = n }
+
+abbrev arc : ℕ → ℕ → Arc
+arc start width = record { given = true; start = start; width = width }
+
+abbrev anywhere : List BodyArcs
+anywhere = replicate 9 noArcs
+
+-- the page of examples/torn-page.txt: a Monday, tithi 14, the Sun in the degree from 34
+abbrev tornPage : Query
+tornPage = asking 0 401599 1 (onlyWeekday 0) (number 14) notAsked notAsked (onlyArc (arc 122400 3600) ∷ replicate 8 noArcs)
+
+-- days 5 to 9: a tithi, a nakshatra, and in the second edition a yoga, and two arcs of Saturn
+abbrev tithi14 : Query
+tithi14 = asking 5 9 1 noWeekdays (number 14) notAsked notAsked anywhere
+
+abbrev nakshatra7 : Query
+nakshatra7 = asking 5 9 1 noWeekdays notAsked (number 7) notAsked anywhere
+
+abbrev yoga8 : Query
+yoga8 = asking 5 9 2 noWeekdays notAsked notAsked (number 8) anywhere
+
+abbrev saturnInTwo : Query
+saturnInTwo = asking 5 9 2 noWeekdays notAsked notAsked notAsked (set anywhere 8 (record { first = arc 0 3600; second = arc 1295999 108000 }))
+
+pub worked :
+    explanationOf tornPage 33649
+    ∷ explanationOf tornPage 33650
+    ∷ explanationOf tithi14 3
+    ∷ explanationOf tithi14 10
+    ∷ explanationOf tithi14 7
+    ∷ explanationOf nakshatra7 7
+    ∷ explanationOf yoga8 7
+    ∷ explanationOf saturnInTwo 7
+    ∷ explanationOf tithi14 401600
+    ∷ []
+    ≡ ascii "33649 1612-5-14 fits\n"
+    ∷ ascii "33650 1612-5-15 does not fit: weekday asked monday found tuesday\n"
+    ∷ ascii "3 1520-3-22 does not fit: before the span asked from 5 1520-3-24\n"
+    ∷ ascii "10 1520-3-29 does not fit: after the span asked to 9 1520-3-28\n"
+    ∷ ascii "7 1520-3-26 does not fit: tithi asked 14 found 7\n"
+    ∷ ascii "7 1520-3-26 does not fit: nakshatra asked 7 found 6\n"
+    ∷ ascii "7 1520-3-26 does not fit: yoga asked 8 found 6 edition 2\n"
+    ∷ ascii "7 1520-3-26 does not fit: saturn asked 0:0:0 1:0:0 359:59:59 30:0:0 found 285:35:2 edition 2\n"
+    ∷ ascii "refused 2\n"
+    ∷ []
+unfolding editionText dateBytes leap monthDays sameDate next dateOn dateOfDay inSet floorOver reduced differenceOf table meanLongitude longitudeAt bhuja equation signed corrected trueLongitude isEdition trueMoon trueSunAt trueMoonAt tithiAt nakshatraAt yogaAt meets weekdayMet givenArcs inArc inSome inArcs askedInRange weekdaysInRange arcInRange bodyArcsInRange arcsInRange conditionsInRange refusalOf arcConditions conditionsOn firstUnmet refusalOn whyOf digitsWithin digitsOf refusalLine nameAt dayBytes angleBytes nameIn namesIn arcBytes weekdaysText numbersText arcsText causeText verdictText answerLine
+worked = refl
