@@ -18,6 +18,7 @@ struct Cause {
     found: u32,
 }
 
+// The answer in numbers; a refusal has all zeros.
 struct Numbers {
     result: u32,
     edition: u32,
@@ -48,8 +49,9 @@ fn both_arcs(body: u32, asked: BodyArcs, found: u32) -> Cause
     let second = asked.second;
     let first_given = first.given as u32;
     let second_given = second.given as u32;
+    let condition = 7 + body;
     Cause {
-        condition: 7 + body,
+        condition,
         asked: [
             first_given,
             first.start,

@@ -26,14 +26,16 @@ dayBytes n = digitsOf n ++ (ascii " " ++ dateBytes (dateOfDay n .date))
 unfoldable pub angleBytes : ℕ → List ℕ
 angleBytes seconds = digitsOf (seconds / 3600) ++ (ascii ":" ++ (digitsOf (seconds / 60 % 60) ++ (ascii ":" ++ digitsOf (seconds % 60))))
 
--- the names of those of some weekdays that a set has, each behind a space
+-- a weekday's name behind a space, where a set has it
 unfoldable pub nameIn : ℕ → ℕ → List ℕ
 nameIn set weekday = cond (inSet set weekday) (ascii " " ++ nameAt weekdayNames weekday) []
 
+-- the names of those of some weekdays that a set has
 unfoldable pub namesIn : ℕ → List ℕ → List ℕ
 namesIn set [] = []
 namesIn set (w ∷ ws) = nameIn set w ++ namesIn set ws
 
+-- Monday to Sunday
 abbrev pub sevenDays : List ℕ
 sevenDays = 0 ∷ 1 ∷ 2 ∷ 3 ∷ 4 ∷ 5 ∷ 6 ∷ []
 
@@ -69,7 +71,7 @@ causeText c =
 unfoldable pub verdictText : Cause → List ℕ
 verdictText c = cond (eqb (c .condition) 0) (ascii " fits") (ascii " does not fit: " ++ causeText c)
 
--- the line for an answer of day n; a catalogue's way to name the edition
+-- the line for an answer of day n; the edition is named as in a catalogue
 unfoldable pub answerLine : ℕ → Numbers → List ℕ
 answerLine n w =
     cond (eqb (w .refusal) accepted) (dayBytes n ++ (verdictText (w .cause) ++ (editionText (w .edition) ++ ascii "\n"))) (refusalLine (w .refusal))

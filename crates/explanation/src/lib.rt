@@ -45,6 +45,7 @@ fn put_name(line: Line, set: u32, weekday: u32) -> Line
     }
 }
 
+// The names of a set's weekdays, Monday first.
 fn put_names(line: Line, set: u32) -> Line
     ensures { λ r. ⌜ r ≡ withBytes line (namesIn set sevenDays) ⌝ }
 {
@@ -99,6 +100,7 @@ fn put_arcs(line: Line, body: u32, asked: BodyArcs, found: u32) -> Line
     put_angle(both.text(b" found "), found)
 }
 
+// Whether the day fits, and else what shuts it out.
 fn put_verdict(line: Line, reason: Reason) -> Line
     ensures { λ r. ⌜ r ≡ withBytes line (verdictText (causeOf reason)) ⌝ }
 {

@@ -227,7 +227,7 @@ fn first_unmet(query: Query, day: u32) -> Reason
     unmet_arcs(arcs, pair)
 }
 
-// The refusal of the question, or 0.
+// The refusal of the question, or 0: the edition's, then the day's, then what else the query is refused for, as of a look.
 fn refusal_on(query: Query, day: u32) -> u32
     ensures { λ r. ⌜ r ≡ refusalOn query day ⌝ }
 {

@@ -12,12 +12,12 @@ cast-first-given c = search needs
 cast-second-given : tie.Need-cast-second-given
 cast-second-given c = search needs
 
-add-t8 : tie.Need-add-t8
-add-t8 c = search needs
+add-condition : tie.Need-add-condition
+add-condition c = search needs
 
 returns : tie.Need-returns
 unfolding causeOf
 returns c = record { condition = refl; asked = rw (as-number (c .before .before .before .before .args .asked .first .given), as-number (c .before .before .before .before .args .asked .second .given)); value = refl }
 
 pub both-arcs-spec : {M : Type 1} → statement M
-both-arcs-spec = tie.close (tie.spec cast-first-given cast-second-given add-t8 returns)
+both-arcs-spec = tie.close (tie.spec cast-first-given cast-second-given add-condition returns)
