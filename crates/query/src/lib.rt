@@ -76,7 +76,8 @@ impl Asked {
         }
     }
 
-    fn admits(self, value: u32) -> bool
+    // Whether a value will do: any where none is asked for.
+    pub fn admits(self, value: u32) -> bool
         ensures { λ r. ⌜ r ≡ meets self value ⌝ }
     {
         if self.given {

@@ -1,14 +1,14 @@
 -- How the test of a condition comes out: one that is not given holds, and of one that is given the value found decides.
 -- Assumes nothing.
 use Prim.Native.Nat.{ℕ}
-use mathlib.Core.Path.{_≡_}
+use mathlib.Core.Path.{_≡_, subst}
 use mathlib.Core.Bool.{Bool, true, false, true≢false}
-use lib.Dec.{eqb}
 use Rattle.days.specs.Weekdays.{inSet}
 use Rattle.query.specs.declared.Asked.{Asked}
 use Rattle.query.specs.declared.Weekdays.{Weekdays}
 use Rattle.query.specs.declared.BodyArcs.{BodyArcs}
 use Rattle.query.specs.Conditions.{meets, weekdayMet, arcsGiven, givenArcs, inSome, inArcs}
+use Rattle.reasons.specs.declared.Tested.{Tested}
 use Rattle.reasons.specs.Parts.{TestedFor}
 
 none : (holds : Bool) (value : ℕ) → true ≡ holds → TestedFor holds value (record { holds = true; found = 0 })
@@ -21,8 +21,9 @@ module _ (asked : Asked) (value : ℕ) where
   pub no-number : asked .given ≡ false → TestedFor (meets asked value) value (record { holds = true; found = 0 })
   no-number g = none _ _ (unfold meets in rw g)
 
-  pub number : {x : ℕ} → asked .given ≡ true → x ≡ value → TestedFor (meets asked value) value (record { holds = eqb x (asked .value); found = x })
-  number g e = some (unfold meets in rw (g, e)) e
+  -- the number found is the one meant
+  pub number-of : {x : ℕ} {t : Tested} → x ≡ value → TestedFor (meets asked x) x t → TestedFor (meets asked value) value t
+  number-of {t = t} e tested = subst (λ (n : ℕ). TestedFor (meets asked n) n t) e tested
 
 module _ (asked : Weekdays) (value : ℕ) where
   pub no-weekdays : asked .given ≡ false → TestedFor (weekdayMet asked value) value (record { holds = true; found = 0 })

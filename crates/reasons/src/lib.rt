@@ -99,6 +99,15 @@ fn test_weekday(asked: Weekdays, day: Day) -> Tested
     }
 }
 
+fn test_number(asked: Asked, found: u32) -> Tested
+    ensures { λ r. ⌜ TestedFor (meets asked found) found r ⌝ }
+{
+    Tested {
+        holds: asked.admits(found),
+        found,
+    }
+}
+
 fn test_tithi(asked: Asked, edition: u32, day: Day) -> Tested
     requires { ⌜ (inRange day ≡ true) × (isEdition edition ≡ true) ⌝ }
     ensures { λ r. ⌜ TestedFor (meets asked (tithiAt edition day)) (tithiAt edition day) r ⌝ }
@@ -107,10 +116,7 @@ fn test_tithi(asked: Asked, edition: u32, day: Day) -> Tested
         return NOT_ASKED;
     }
     let found = panchanga::tithi(edition, day);
-    Tested {
-        holds: found.number == asked.value,
-        found: found.number,
-    }
+    test_number(asked, found.number)
 }
 
 fn test_nakshatra(asked: Asked, edition: u32, day: Day) -> Tested
@@ -121,10 +127,7 @@ fn test_nakshatra(asked: Asked, edition: u32, day: Day) -> Tested
         return NOT_ASKED;
     }
     let found = panchanga::nakshatra(edition, day);
-    Tested {
-        holds: found.number == asked.value,
-        found: found.number,
-    }
+    test_number(asked, found.number)
 }
 
 fn test_yoga(asked: Asked, edition: u32, day: Day) -> Tested
@@ -135,10 +138,7 @@ fn test_yoga(asked: Asked, edition: u32, day: Day) -> Tested
         return NOT_ASKED;
     }
     let found = panchanga::yoga(edition, day);
-    Tested {
-        holds: found.number == asked.value,
-        found: found.number,
-    }
+    test_number(asked, found.number)
 }
 
 fn test_arcs(asked: BodyArcs, body: Body, day: Day) -> Tested

@@ -1,9 +1,9 @@
 -- `test_tithi` meets its contract: the tithi of a day in range is not refused. Assumes nothing.
 use borrow.Author.Needs.{needs}
-use borrow.Author.Tests.{not-true, not-false}
+use borrow.Author.Tests.{not-true}
 use Rattle.panchanga.specs.OnDays.{tithiAt}
 use Rattle.panchanga.proofs.Answers.{given-in}
-use Rattle.reasons.proofs.Testing.{no-number, number}
+use Rattle.reasons.proofs.Testing.{no-number, number-of}
 use Rattle.reasons.proofs.test_tithi.Statement.{statement}
 use Rattle.reasons.proofs.test_tithi.Tie as tie
 
@@ -13,8 +13,13 @@ returns c = no-number _ _ (not-true _ (c .if1 .taken))
 tithi-requires : tie.Need-tithi-requires
 tithi-requires c κs = search needs
 
+test-number-requires : tie.Need-test-number-requires
+test-number-requires c κs = search needs
+
 returns-2 : tie.Need-returns-2
-returns-2 c = number _ _ (not-false _ (c .before .before .before .if1 .left)) (given-in tithiAt _ _ (c .before .before .tithi .ensures) (c .before .before .before .before .before .pre .1) (c .before .before .before .before .before .pre .0))
+returns-2 c =
+    let pre = c .before .before .before .before .pre in
+    number-of _ _ (given-in tithiAt _ _ (c .before .tithi .ensures) (pre .1) (pre .0)) (c .test-number .ensures)
 
 pub test-tithi-spec : {M : Type 1} → statement M
-test-tithi-spec = tie.close (tie.spec returns tithi-requires returns-2)
+test-tithi-spec = tie.close (tie.spec returns tithi-requires test-number-requires returns-2)
