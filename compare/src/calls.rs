@@ -1,7 +1,7 @@
 //! The calls of the two static archives: `host`, the museum's C calls, and `bridge`, a test library
-//! that reaches the search and the look with every condition and edition, the text that `find` prints,
-//! a day's elements in an edition, a mean place with its left-over and divisor, the star planets
-//! together, and rows of records. A number of a refused call is 0, but with 7.
+//! that reaches the search, the look and the reasons with every condition and edition, the text that
+//! `find` prints, a day's elements in an edition, a mean place with its left-over and divisor, the star
+//! planets together, and rows of records. A number of a refused call is 0, but with 7.
 
 use crate::reference::records::Record;
 
@@ -137,6 +137,17 @@ unsafe extern "C" {
     pub fn bridge_examine_result(query: *const u8, query_len: usize, day: u32) -> u32;
     pub fn bridge_examine_matches(query: *const u8, query_len: usize, day: u32) -> u32;
     pub fn bridge_examine_next(query: *const u8, query_len: usize, day: u32) -> u32;
+
+    /// Why a day isn't in a query's list. All but the edition is 0 where it is.
+    pub fn bridge_why_result(query: *const u8, query_len: usize, day: u32) -> u32;
+    pub fn bridge_why_edition(query: *const u8, query_len: usize, day: u32) -> u32;
+    /// 1 before the span, 2 after it, 3 weekday, 4 tithi, 5 nakshatra, 6 yoga, 7 and the body's number
+    /// for its arcs.
+    pub fn bridge_why_condition(query: *const u8, query_len: usize, day: u32) -> u32;
+    /// The values asked from number 0 on, one or, of a body, six: of each of its arcs "given" (0 or 1),
+    /// start and width. Behind the last one come zeros.
+    pub fn bridge_why_asked(query: *const u8, query_len: usize, day: u32, index: u32) -> u32;
+    pub fn bridge_why_found(query: *const u8, query_len: usize, day: u32) -> u32;
 
     /// List and buffer are lent for the call. Each of the three calls fills the buffer.
     pub fn bridge_lines_result(

@@ -51,6 +51,7 @@ fn main() {
     checks.part("days that differ by edition", |checks| {
         runs::parted::run(checks, &almanac)
     });
+    checks.part("reasons", |checks| runs::reasons::run(checks, &almanac));
     checks.part("lines into a buffer", |checks| {
         runs::lines::run(checks, &almanac)
     });
@@ -62,5 +63,6 @@ fn main() {
     });
     checks.part("months", |checks| runs::month::run(checks, &almanac));
     checks.part("pages", |checks| runs::find::run(checks, &almanac));
+    checks.part("days and pages", |checks| runs::why::run(checks, &almanac));
     println!("compare: {} checks, 0 differences", checks.total());
 }

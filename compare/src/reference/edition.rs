@@ -19,4 +19,11 @@ impl Edition {
             _ => Err(NO_SUCH_EDITION),
         }
     }
+
+    pub fn number(self) -> u32 {
+        match self {
+            Edition::First => 1,
+            Edition::Second => 2,
+        }
+    }
 }

@@ -1,9 +1,9 @@
-//! The rules of paper 01, and of paper 02's L1, L2, L3, L4, L8 and L9, each written a second time and
-//! by another method than the proved crates: exact fractions with one floor, dates by walking the
-//! calendar day by day, and a search that tests every day of its span. Each function cites the
-//! paper's heading that it follows; the page of `find` and what it prints, which the papers leave
-//! open, are described in `page` and `catalogue`, what `engraving` prints in `plate`, and what `month`
-//! prints in `month`.
+//! The rules of paper 01, and of paper 02's L1, L2, L3, L4, L5, L8 and L9, each written a second time
+//! and by another method than the proved crates: exact fractions with one floor, dates by walking the
+//! calendar day by day, a search that tests every day of its span, and reasons from a list of all
+//! conditions. Each function cites the paper's heading that it follows; the page of `find` and what it
+//! prints, which the papers leave open, are described in `page` and `catalogue`, what `engraving`
+//! prints in `plate`, what `month` prints in `month`, and what `why` reads and prints in `why`.
 
 pub mod almanac;
 pub mod catalogue;
@@ -18,8 +18,10 @@ pub mod page;
 pub mod panchanga;
 pub mod planets;
 pub mod plate;
+pub mod reasons;
 pub mod records;
 pub mod refusal;
 pub mod saka;
 pub mod search;
 pub mod sheet;
+pub mod why;

@@ -45,15 +45,29 @@ pub const BODIES: [&str; 9] = [
 ];
 
 const NO_SUCH_WORD: &str = "no line begins with this word";
-const OTHER_VALUES: &str = "a value is missing, of another form, or one too many";
+pub const OTHER_VALUES: &str = "a value is missing, of another form, or one too many";
 const TOO_MANY_VALUES: &str = "more values than any word has";
 const STANDS_ALREADY: &str = "this word stands already";
 const NO_NEWLINE: &str = "the last line has no newline";
 
 /// A refusal, and each reason for it in docs/find.md that is true of the line.
-struct Fault {
+pub struct Fault {
     refusal: u32,
     reasons: Vec<&'static str>,
+}
+
+impl Fault {
+    pub fn new(refusal: u32, reason: &'static str) -> Fault {
+        Fault {
+            refusal,
+            reasons: vec![reason],
+        }
+    }
+
+    /// Of a line of the right form: its refusal says the reason.
+    pub fn of_values(refusal: u32) -> Fault {
+        Fault::new(refusal, reason(refusal))
+    }
 }
 
 /// What standard error has to say.
@@ -73,7 +87,7 @@ pub struct Printed {
 
 /// An end of a span.
 #[derive(Clone, Copy)]
-enum End {
+pub enum End {
     Number(u32),
     Date(Date),
 }
@@ -108,7 +122,7 @@ fn three_numbers(word: &str, joint: char) -> Option<[u32; 3]> {
     numbers?.try_into().ok()
 }
 
-fn end(word: &str) -> Option<End> {
+pub fn end(word: &str) -> Option<End> {
     let date = || {
         let [year, month, day] = three_numbers(word, '-')?;
         Some(End::Date(Date { year, month, day }))
@@ -156,7 +170,7 @@ fn body(word: &str) -> Option<usize> {
     BODIES.iter().position(|name| *name == word)
 }
 
-fn words(line: &str) -> Vec<&str> {
+pub fn words(line: &str) -> Vec<&str> {
     let before_comment = line.split('#').next().unwrap_or("");
     let pieces = before_comment.split([' ', '\t', '\r']);
     pieces.filter(|word| !word.is_empty()).collect()
@@ -197,7 +211,7 @@ fn gravity(refusal: u32) -> usize {
 
 impl End {
     /// Refused with 1 or 2 for a date. A day number is taken as it is.
-    fn day(self, almanac: &Almanac) -> Answer<u32> {
+    pub fn day(self, almanac: &Almanac) -> Answer<u32> {
         match self {
             End::Number(number) => Ok(number),
             End::Date(date) => almanac.number_of(date),
@@ -266,6 +280,12 @@ fn bad_input(word: &str, values: &[&str], stood: &BTreeSet<&str>) -> Option<Faul
     (!reasons.is_empty()).then_some(Fault { refusal, reasons })
 }
 
+/// A line up to its newline, which it has to have.
+pub fn without_newline(line: &str) -> Result<&str, Fault> {
+    let ended = line.strip_suffix('\n');
+    ended.ok_or_else(|| Fault::new(BAD_INPUT, NO_NEWLINE))
+}
+
 /// Adds what a line says to the query, and gives the gravest of its faults, if it has any: the page is
 /// then refused, and the query of no use.
 fn read_line<'a>(
@@ -274,10 +294,7 @@ fn read_line<'a>(
     stood: &mut BTreeSet<&'a str>,
     query: &mut Query,
 ) -> Result<(), Fault> {
-    let line = line.strip_suffix('\n').ok_or(Fault {
-        refusal: BAD_INPUT,
-        reasons: vec![NO_NEWLINE],
-    })?;
+    let line = without_newline(line)?;
     let words = words(line);
     let Some((word, values)) = words.split_first() else {
         return Ok(());
@@ -287,10 +304,7 @@ fn read_line<'a>(
         stood.insert(word);
         let alone = said.well_formed(almanac);
         if let Err(refusal) = alone.and_then(|()| said.put_into(query, almanac)) {
-            faults.push(Fault {
-                refusal,
-                reasons: vec![reason(refusal)],
-            });
+            faults.push(Fault::of_values(refusal));
         }
     }
     let gravest = faults
@@ -299,8 +313,17 @@ fn read_line<'a>(
     gravest.map_or(Ok(()), Err)
 }
 
+/// A fault, and the number of the line that has it.
+pub type FaultAt = (Fault, usize);
+
+/// Of several that are equally grave, the first is taken.
+pub fn gravest(faults: impl IntoIterator<Item = FaultAt>) -> Option<FaultAt> {
+    let by_gravity = |(fault, _): &FaultAt| gravity(fault.refusal);
+    faults.into_iter().min_by_key(by_gravity)
+}
+
 /// The query of a page, or the gravest fault of its lines and the first line that has it.
-fn read(almanac: &Almanac, text: &str) -> Result<Query, (Fault, usize)> {
+pub fn read(almanac: &Almanac, text: &str) -> Result<Query, FaultAt> {
     let mut query = Query::without_conditions(0, LAST_DAY);
     let mut stood = BTreeSet::new();
     let mut faults = Vec::new();
@@ -309,35 +332,48 @@ fn read(almanac: &Almanac, text: &str) -> Result<Query, (Fault, usize)> {
             faults.push((fault, number));
         }
     }
-    // Of several that are equally grave, the first is taken.
-    let gravest = faults
-        .into_iter()
-        .min_by_key(|(fault, _)| gravity(fault.refusal));
-    gravest.map_or(Ok(query), Err)
+    gravest(faults).map_or(Ok(query), Err)
 }
 
-fn refused(refusal: u32, complaint: Complaint) -> Printed {
-    Printed {
-        output: format!("refused {refusal}\n"),
-        complaint,
+impl Printed {
+    pub fn accepted(output: String) -> Printed {
+        Printed {
+            output,
+            complaint: Complaint::Nothing,
+        }
     }
+
+    fn refused(refusal: u32, complaint: Complaint) -> Printed {
+        Printed {
+            output: format!("refused {refusal}\n"),
+            complaint,
+        }
+    }
+
+    pub fn too_long() -> Printed {
+        Printed::refused(BAD_INPUT, Complaint::OfPage)
+    }
+
+    pub fn at_fault((fault, line): FaultAt) -> Printed {
+        Printed::refused(fault.refusal, Complaint::OfLine(line, fault.reasons))
+    }
+}
+
+/// A letter for each byte: one that isn't ASCII is part of a word.
+pub fn letters(page: &[u8]) -> String {
+    page.iter().map(|byte| char::from(*byte)).collect()
 }
 
 /// All that the program writes for a page.
 pub fn printed(almanac: &Almanac, page: &[u8]) -> Printed {
     if page.len() >= TOO_LONG {
-        return refused(BAD_INPUT, Complaint::OfPage);
+        return Printed::too_long();
     }
-    // A letter for each byte: one that isn't ASCII is part of a word.
-    let text: String = page.iter().map(|byte| char::from(*byte)).collect();
-    match read(almanac, &text) {
+    match read(almanac, &letters(page)) {
         Ok(query) => {
             let found = query.search(almanac).expect("all lines are well-formed");
-            Printed {
-                output: catalogue::text(almanac, &found),
-                complaint: Complaint::Nothing,
-            }
+            Printed::accepted(catalogue::text(almanac, &found))
         }
-        Err((fault, line)) => refused(fault.refusal, Complaint::OfLine(line, fault.reasons)),
+        Err(fault_at) => Printed::at_fault(fault_at),
     }
 }

@@ -85,7 +85,7 @@ impl Arcs {
     }
 
     /// Where one or two are given, a place in one of these will do; where none is, every place.
-    fn allow(self, place: u32) -> bool {
+    pub fn allow(self, place: u32) -> bool {
         self.given().count() == 0 || self.given().any(|arc| arc.holds(place))
     }
 

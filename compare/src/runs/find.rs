@@ -4,46 +4,17 @@ use crate::checks::Checks;
 use crate::random::Random;
 use crate::reference::almanac::Almanac;
 use crate::reference::catalogue::WEEKDAYS;
-use crate::reference::page::{printed, Complaint, BODIES, TOO_LONG};
+use crate::reference::page::{printed, BODIES, TOO_LONG};
 
 use super::page_text::*;
-use super::programs::{self, shown};
+use super::programs;
 use super::queries::Kind;
 
 const PROGRAM: &str = "target/bin/find";
 
-/// What the complaint is about is compared, and of a line its reason; where several are true, one of
-/// them will do.
-fn compare_complaint(
-    checks: &mut Checks,
-    input: impl Fn() -> String,
-    complaint: Complaint,
-    error: &str,
-) {
-    let about = "what its standard error is about";
-    match complaint {
-        Complaint::Nothing => return checks.same("its standard error", input, "", error),
-        Complaint::OfLine(number, reasons) => {
-            let start = format!("line {number}: ");
-            let reason = error.strip_prefix(&start).unwrap_or_default().trim_end();
-            let came: String = error.chars().take(start.len()).collect();
-            checks.same(about, &input, start, came);
-            let told = reasons.iter().find(|true_one| **true_one == reason);
-            checks.same("its reason", &input, *told.unwrap_or(&reasons[0]), reason);
-        }
-        Complaint::OfPage => checks.same(about, &input, false, error.starts_with("line ")),
-    }
-    let one_line = error.ends_with('\n') && error.lines().count() == 1;
-    checks.same("its standard error is one line", input, true, one_line);
-}
-
 fn compare_pieces(checks: &mut Checks, almanac: &Almanac, pieces: &[&[u8]]) {
-    let page = pieces.concat();
-    let expected = printed(almanac, &page);
-    let input = || format!("{}, in {} pieces", shown(&page), pieces.len());
-    let written = programs::run(checks, PROGRAM, input, pieces);
-    checks.same_lines(PROGRAM, input, &expected.output, &written.output);
-    compare_complaint(checks, input, expected.complaint, &written.error);
+    let expected = printed(almanac, &pieces.concat());
+    programs::compare(checks, PROGRAM, expected, pieces);
 }
 
 fn compare(checks: &mut Checks, almanac: &Almanac, page: &[u8]) {
@@ -295,7 +266,7 @@ fn many_days(checks: &mut Checks, almanac: &Almanac) {
 }
 
 /// A piece repeated as often as a page takes beside a few other lines.
-fn many(piece: &[u8]) -> Vec<u8> {
+pub fn many(piece: &[u8]) -> Vec<u8> {
     piece.repeat((TOO_LONG - 200) / piece.len())
 }
 
@@ -369,7 +340,7 @@ fn in_pieces(checks: &mut Checks, almanac: &Almanac) {
 }
 
 /// The lines of a random query; any conditions, or one or two over a longer span.
-fn random_lines(random: &mut Random, almanac: &Almanac, kind: Kind) -> Vec<Line> {
+pub fn random_lines(random: &mut Random, almanac: &Almanac, kind: Kind) -> Vec<Line> {
     let (given, most) = if random.once_in(2) {
         (random.below(1 << 13), 400)
     } else {
@@ -380,7 +351,7 @@ fn random_lines(random: &mut Random, almanac: &Almanac, kind: Kind) -> Vec<Line>
 }
 
 /// Replaces or adds lines that are refused, of one to four kinds.
-fn spoil(random: &mut Random, lines: &mut Vec<Line>) {
+pub fn spoil(random: &mut Random, lines: &mut Vec<Line>) {
     let kinds: [&[&str]; 6] = [
         &BAD_EDITIONS,
         &OTHER_FORMS,

@@ -71,7 +71,7 @@ pub fn compare(
 
 /// Days in a span, about its ends and outside it, days of the table's ends, and numbers that are no
 /// days.
-fn days_about(random: &mut Random, (first, last): Span) -> BTreeSet<u32> {
+pub fn days_about(random: &mut Random, (first, last): Span) -> BTreeSet<u32> {
     let mut days = BTreeSet::from([0, LAST_DAY, LAST_DAY + 1, u32::MAX]);
     for end in [first, last] {
         days.extend([end, end.wrapping_sub(1), end.wrapping_add(1)]);

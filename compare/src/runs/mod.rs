@@ -23,10 +23,12 @@ pub mod planets;
 pub mod programs;
 pub mod queries;
 pub mod query_bytes;
+pub mod reasons;
 pub mod records;
 pub mod saka;
 pub mod searches;
 pub mod smudged;
+pub mod why;
 pub mod worked;
 
 use crate::reference::days::LAST_DAY;

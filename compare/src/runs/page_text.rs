@@ -446,7 +446,7 @@ fn joined(random: &mut Random, numbers: [u32; 3], joint: &str) -> String {
 }
 
 /// A day by its number or its date.
-fn day(random: &mut Random, almanac: &Almanac, day: u32) -> String {
+pub fn day(random: &mut Random, almanac: &Almanac, day: u32) -> String {
     if random.once_in(2) {
         number(random, day)
     } else {
@@ -527,6 +527,19 @@ pub fn put(random: &mut Random, lines: &mut Vec<Line>, line: Line) {
     lines.push(line);
 }
 
+/// Adds a line, with blanks about its words, and sometimes a comment.
+pub fn put_line(random: &mut Random, page: &mut Vec<u8>, line: &Line) {
+    page.extend(random.one_of(&INDENTS).bytes());
+    for (at, word) in line.iter().enumerate() {
+        if at > 0 {
+            page.extend(random.one_of(&BLANKS).bytes());
+        }
+        page.extend(word.bytes());
+    }
+    page.extend(random.one_of(&TAILS));
+    page.push(b'\n');
+}
+
 /// The lines in any order, with blanks and comments, and lines that say nothing between them.
 pub fn page_of(random: &mut Random, mut lines: Vec<Line>) -> Vec<u8> {
     let mut page = Vec::new();
@@ -536,15 +549,7 @@ pub fn page_of(random: &mut Random, mut lines: Vec<Line>) -> Vec<u8> {
             page.push(b'\n');
         }
         let line = lines.swap_remove(random.below(lines.len() as u32) as usize);
-        page.extend(random.one_of(&INDENTS).bytes());
-        for (at, word) in line.iter().enumerate() {
-            if at > 0 {
-                page.extend(random.one_of(&BLANKS).bytes());
-            }
-            page.extend(word.bytes());
-        }
-        page.extend(random.one_of(&TAILS));
-        page.push(b'\n');
+        put_line(random, &mut page, &line);
     }
     page
 }

@@ -12,9 +12,9 @@ use crate::reference::search::Query;
 use super::{general_search, look, EDITIONS, NO_EDITIONS};
 
 /// A limb that a query can ask for: where it stands, and how to ask for it.
-type Limb = (fn(&Elements) -> u32, fn(&mut Query, u32));
+pub type Limb = (fn(&Elements) -> u32, fn(&mut Query, u32));
 
-const LIMBS: [Limb; 3] = [
+pub const LIMBS: [Limb; 3] = [
     (
         |elements| elements.tithi,
         |query, value| query.tithi = Some(value),

@@ -6,6 +6,7 @@ use std::thread::sleep;
 use std::time::Duration;
 
 use crate::checks::Checks;
+use crate::reference::page::{Complaint, Printed};
 
 /// What a program wrote. A byte that isn't text is replaced, and so differs from all that is
 /// expected.
@@ -59,4 +60,38 @@ pub fn run(
 pub fn shown(input: &[u8]) -> String {
     let start = &input[..input.len().min(600)];
     format!("{} bytes, \"{}\"", input.len(), start.escape_ascii())
+}
+
+/// What the complaint is about is compared, and of a line its reason; where several are true, one of
+/// them will do.
+fn compare_complaint(
+    checks: &mut Checks,
+    input: impl Fn() -> String,
+    complaint: Complaint,
+    error: &str,
+) {
+    let about = "what its standard error is about";
+    match complaint {
+        Complaint::Nothing => return checks.same("its standard error", input, "", error),
+        Complaint::OfLine(number, reasons) => {
+            let start = format!("line {number}: ");
+            let reason = error.strip_prefix(&start).unwrap_or_default().trim_end();
+            let came: String = error.chars().take(start.len()).collect();
+            checks.same(about, &input, start, came);
+            let told = reasons.iter().find(|true_one| **true_one == reason);
+            checks.same("its reason", &input, *told.unwrap_or(&reasons[0]), reason);
+        }
+        Complaint::OfPage => checks.same(about, &input, false, error.starts_with("line ")),
+    }
+    let one_line = error.ends_with('\n') && error.lines().count() == 1;
+    checks.same("its standard error is one line", input, true, one_line);
+}
+
+/// A program that reads a page, run on one that comes in pieces: all that it writes.
+pub fn compare(checks: &mut Checks, program: &str, expected: Printed, pieces: &[&[u8]]) {
+    let page = pieces.concat();
+    let input = || format!("{}, in {} pieces", shown(&page), pieces.len());
+    let written = run(checks, program, input, pieces);
+    checks.same_lines(program, input, &expected.output, &written.output);
+    compare_complaint(checks, input, expected.complaint, &written.error);
 }

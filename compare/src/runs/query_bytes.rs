@@ -67,6 +67,16 @@ pub fn numbers(bytes: &[u8]) -> Vec<u32> {
         .collect()
 }
 
+/// The start and width of a body's first arc and of its second, as they stand in a query's bytes, given
+/// or not.
+pub fn arcs_in(bytes: &[u8], body: usize) -> [[u32; 2]; 2] {
+    let numbers = numbers(bytes);
+    [10, 38].map(|first_body| {
+        let given = first_body + 3 * body;
+        [numbers[given + 1], numbers[given + 2]]
+    })
+}
+
 /// A query's bytes for a message.
 pub fn shown(bytes: &[u8]) -> String {
     let numbers = numbers(bytes);
