@@ -1,17 +1,17 @@
 -- The laws of days and pairs: a number and its pair are one day, the weekday by the pair, and the step case by case; by arithmetic on 4016 C + A.
 -- Assumes nothing.
-use mathlib.Core.Bool.{Bool, true, false, _&&_, false≢true}
+use mathlib.Core.Bool.{Bool, true, false, cond, _&&_, false≢true}
 use mathlib.Core.Path.{_≡_, refl, ap, _∙_}
 use Prim.Native.Nat.{ℕ, _+_, _*_, _/_, _%_, _<_, _≤_}
 use native.Mathlib.Decide.{decLe}
 use native.Mathlib.Omega.{arith}
-use lib.Dec.{ltb}
-use borrow.Author.Tests.{ltb-true, lt-ltb, le-leb, lt-leb}
+use lib.Dec.{ltb, leb}
+use borrow.Author.Tests.{ltb-true, leb-true, lt-ltb, le-leb, lt-leb}
 use Rattle.days.specs.declared.Day.{Day}
 use Rattle.days.specs.declared.DayAnswer.{DayAnswer}
 use Rattle.days.specs.declared.NumberAnswer.{NumberAnswer}
 use Rattle.days.specs.Refusals.{outOfRange}
-use Rattle.days.specs.Days.{cycleDays, cycles, lastDay, count, weekdayOn, weekdayAt, pairAt, theDay, noDay, theNumber, noNumber, inRange, onDay, dayOf, nextOf}
+use Rattle.days.specs.Days.{cycleDays, cycles, lastDay, count, weekdayOn, weekdayAt, pairAt, theDay, noDay, theNumber, noNumber, inRange, onDay, dayOf, nextOf, refusedSpanOr, spanRefusal}
 
 -- what a pair in range keeps to
 pub in-range : (d : Day) → inRange d ≡ true → (d .cycle < cycles) × (d .within < cycleDays)
@@ -37,6 +37,38 @@ day-of n h = rw (le-leb _ _ h)
 pub past-last : (n : ℕ) → lastDay < n → dayOf n ≡ noDay outOfRange
 unfolding dayOf
 past-last n h = rw (lt-leb _ _ h)
+
+-- what a span that is not refused keeps to, and back
+pub record Span (first last : ℕ) : Type 0 where
+  pub ordered : first ≤ last
+  pub ends : last ≤ lastDay
+
+pub span-accepted : (first last : ℕ) → spanRefusal first last ≡ 0 → Span first last
+unfolding spanRefusal
+span-accepted first last e = go (leb first lastDay) (leb last lastDay) (leb first last) refl refl e
+  where
+    go : (a b o : Bool) → leb last lastDay ≡ b → leb first last ≡ o → _≡_ {A = ℕ} (cond (a && b) (cond o 0 5) 2) 0 → Span first last
+    go true true true h k e = record { ordered = leb-true _ _ k; ends = leb-true _ _ h }
+    go true true false h k e = absurd (omega arith)
+    go true false o h k e = absurd (omega arith)
+    go false b o h k e = absurd (omega arith)
+
+pub accepts-span : (first last : ℕ) → first ≤ last → last ≤ lastDay → spanRefusal first last ≡ 0
+unfolding spanRefusal
+accepts-span first last h k = rw (le-leb first lastDay (omega arith), le-leb _ _ k, le-leb _ _ h)
+
+-- what stands behind a span's refusal is told only of a span that is not refused
+pub span-refused : (first last else : ℕ) → (spanRefusal first last ≡ 0 → ⊥) → refusedSpanOr first last else ≡ spanRefusal first last
+unfolding spanRefusal
+span-refused first last else n = go (leb first lastDay && leb last lastDay) (leb first last) n
+  where
+    go : (a o : Bool) → (_≡_ {A = ℕ} (cond a (cond o 0 5) 2) 0 → ⊥) → cond a (cond o else 5) 2 ≡ cond a (cond o 0 5) 2
+    go true true n = absurd (n refl)
+    go true false n = refl
+    go false o n = refl
+
+pub span-given : (first last else : ℕ) → spanRefusal first last ≡ 0 → refusedSpanOr first last else ≡ else
+span-given first last else e = let s = span-accepted first last e in rw (le-leb first lastDay (omega (arith, s .ordered, s .ends)), le-leb _ _ (s .ends), le-leb _ _ (s .ordered))
 
 -- a number of a day: given for a day in range, and refused for any other
 pub given : (f : Day → ℕ) (d : Day) → inRange d ≡ true → onDay f d ≡ theNumber (f d)

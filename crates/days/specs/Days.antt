@@ -4,7 +4,7 @@ use mathlib.Core.Bool.{Bool, cond, _&&_}
 use mathlib.Core.List.{List, [], _∷_}
 use Prim.Native.Nat.{ℕ, zero, suc, _+_, _*_, _/_, _%_}
 use lib.Dec.{ltb, leb}
-use Rattle.days.specs.Refusals.{accepted, outOfRange}
+use Rattle.days.specs.Refusals.{accepted, outOfRange, lastBeforeFirst}
 use Rattle.days.specs.declared.Day.{Day}
 use Rattle.days.specs.declared.DayAnswer.{DayAnswer}
 use Rattle.days.specs.declared.NumberAnswer.{NumberAnswer}
@@ -48,6 +48,14 @@ weekdayOn n = n % 7
 unfoldable pub daysFrom : ℕ → ℕ → List ℕ
 daysFrom n zero = []
 daysFrom n (suc m) = n ∷ daysFrom (suc n) m
+
+-- a refusal's number where the span from one day to another, both counted, is refused, and else another number: an end that is no day comes first
+abbrev pub refusedSpanOr : ℕ → ℕ → ℕ → ℕ
+refusedSpanOr first last else = cond (leb first lastDay && leb last lastDay) (cond (leb first last) else lastBeforeFirst) outOfRange
+
+-- why a span is refused, or 0
+unfoldable pub spanRefusal : ℕ → ℕ → ℕ
+spanRefusal first last = refusedSpanOr first last accepted
 
 -- the pair of day n
 abbrev pub pairAt : ℕ → Day

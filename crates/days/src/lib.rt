@@ -2,7 +2,7 @@
 pub mod refusal;
 
 ghost use mathlib.Core.Path.{_≡_};
-ghost use Rattle.days.specs.Days.{theNumber, noNumber, inRange, dayOf, pairOf, numberOf, julianDayOf, weekdayOf, nextOf};
+ghost use Rattle.days.specs.Days.{theNumber, noNumber, inRange, dayOf, pairOf, numberOf, julianDayOf, weekdayOf, nextOf, spanRefusal};
 ghost use Rattle.days.specs.Weekdays.{bitOf, inSet};
 
 // A cycle from 0 to 99 and a day within it from 0 to 4015: paper 01's pair (C, A). Any other pair is refused wherever it is taken.
@@ -177,6 +177,23 @@ impl Day {
         } else {
             NO_DAY
         }
+    }
+}
+
+// Why a span of days is refused, or 0.
+pub fn span_refusal(first: u32, last: u32) -> u32
+    ensures { λ r. ⌜ r ≡ spanRefusal first last ⌝ }
+{
+    if Day::LAST < first {
+        return refusal::OUT_OF_RANGE;
+    }
+    if Day::LAST < last {
+        return refusal::OUT_OF_RANGE;
+    }
+    if last < first {
+        refusal::LAST_BEFORE_FIRST
+    } else {
+        refusal::NONE
     }
 }
 

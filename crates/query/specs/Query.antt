@@ -3,8 +3,8 @@
 use mathlib.Core.Bool.{Bool, cond, _&&_}
 use Prim.Native.Nat.{ℕ}
 use lib.Dec.{leb}
-use Rattle.days.specs.Refusals.{accepted, outOfRange, lastBeforeFirst, badCondition, badEdition}
-use Rattle.days.specs.Days.{lastDay, weekdayOn, pairAt}
+use Rattle.days.specs.Refusals.{accepted, badCondition, badEdition}
+use Rattle.days.specs.Days.{weekdayOn, pairAt, refusedSpanOr}
 use Rattle.panchanga.specs.TrueLongitudes.{isEdition}
 use Rattle.query.specs.declared.BodyArcs.{BodyArcs}
 use Rattle.query.specs.declared.Query.{Query}
@@ -30,7 +30,5 @@ matches q n = inSpan q n && conditionsMet q n
 unfoldable pub refusalOf : Query → ℕ
 refusalOf q =
     cond (isEdition (q .edition))
-    (cond (leb (q .first) lastDay && leb (q .last) lastDay)
-    (cond (leb (q .first) (q .last)) (cond (conditionsInRange q) accepted badCondition) lastBeforeFirst)
-    outOfRange)
+    (refusedSpanOr (q .first) (q .last) (cond (conditionsInRange q) accepted badCondition))
     badEdition

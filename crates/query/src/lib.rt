@@ -244,14 +244,9 @@ impl Query {
         if !panchanga::is_edition(self.edition) {
             return refusal::BAD_EDITION;
         }
-        if Day::LAST < self.first {
-            return refusal::OUT_OF_RANGE;
-        }
-        if Day::LAST < self.last {
-            return refusal::OUT_OF_RANGE;
-        }
-        if self.last < self.first {
-            return refusal::LAST_BEFORE_FIRST;
+        let of_span = days::span_refusal(self.first, self.last);
+        if of_span != refusal::NONE {
+            return of_span;
         }
         if conditions_in_range(self) {
             refusal::NONE
