@@ -25,6 +25,11 @@ capacity list = length list / 4
 unfoldable pub withEntry : List ℕ → ℕ → ℕ → List ℕ
 withEntry list k day = cond (ltb k (capacity list)) (take (4 * k) list ++ (entry day ++ drop (4 * k + 4) list)) list
 
+-- a list with the days' entries from entry k on; a day for which it has no entry is not put
+unfoldable pub withEntriesFrom : List ℕ → ℕ → List ℕ → List ℕ
+withEntriesFrom list k [] = list
+withEntriesFrom list k (d ∷ ds) = withEntriesFrom (withEntry list k d) (k + 1) ds
+
 -- a list with the days' entries at its front, and behind them what was there
 abbrev pub withEntries : List ℕ → List ℕ → List ℕ
 withEntries days list = entries days ++ drop (4 * length days) list

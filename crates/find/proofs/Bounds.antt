@@ -8,13 +8,14 @@ use native.Mathlib.Omega.{arith}
 use lib.Dec.{leb}
 use lib.ListN.{length, length-append}
 use Rattle.days.specs.Days.{lastDay, daysFrom}
+use Rattle.entries.specs.Runs.{filtered}
 use Rattle.panchanga.specs.TrueLongitudes.{isEdition}
 use Rattle.query.specs.declared.Query.{Query}
 use Rattle.query.specs.Query.{conditionsMet, refusalOf}
 use Rattle.query.proofs.Accepted.{accepted-by}
 use Rattle.search.specs.Look.{nextDay}
-use Rattle.search.specs.Days.{filtered, spanLength, matchingDays, visitedFrom, visitedDays}
-use Rattle.search.proofs.Filter.{filtered-short}
+use Rattle.search.specs.Days.{spanLength, matchingDays, visitedFrom, visitedDays}
+use Rattle.entries.proofs.Filter.{filtered-short}
 use Rattle.text.specs.Lines.{lineCapacity}
 use Rattle.catalogue.specs.Catalogue.{dayLine}
 use Rattle.catalogue.specs.Pieces.{dayLines}

@@ -18,7 +18,8 @@ use Rattle.query.specs.Query.{conditionsMet, matches, refusalOf}
 use Rattle.query.proofs.Accepted.{accepted-by}
 use Rattle.search.specs.Look.{nextDay, notExamined, examinedOf}
 use Rattle.search.specs.Days.{matchingDays}
-use Rattle.search.proofs.Laws.{Has, listed-only, listed-all, listed-matches, matches-listed}
+use Rattle.entries.proofs.Lists.{Has}
+use Rattle.search.proofs.Laws.{listed-only, listed-all, listed-matches, matches-listed}
 use Rattle.reasons.specs.Conditions.{Cause, noCause, Condition, arcConditions, conditionsOn, firstUnmet}
 use Rattle.reasons.specs.Reasons.{Numbers, noAnswer, refusalOn, whyOf}
 use Rattle.reasons.proofs.Accepted.{accepted-question}

@@ -12,7 +12,7 @@ use Rattle.search.specs.Days.{spanLength, matchingDays, visitedDays, vis
 use Rattle.entries.specs.Entries.{withEntries, capacity}
 use Rattle.search.specs.Search.{resultOf, listAfter, Measured, Searched}
 use Rattle.query.proofs.Accepted.{accepted-by}
-use Rattle.search.proofs.Filter.{filtered-short}
+use Rattle.entries.proofs.Filter.{filtered-short}
 use Rattle.search.proofs.Limit.{visits-limited}
 
 module _ (q : Query) where

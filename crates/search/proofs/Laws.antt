@@ -1,17 +1,16 @@
 -- The laws beside the search: the matching days and the visited days ascend strictly, so each stands once; a day is listed if and only if it is in the span
 -- and meets the conditions; what is written to a list is read back; every matching day is visited. By induction on the days.
 -- Assumes nothing.
-use Prim.Native.Nat.{ℕ, zero, suc, _+_, _-_, _≤_, _<_}
-use mathlib.Core.Path.{_≡_, refl, ap, sym, subst, _∙_}
+use Prim.Native.Nat.{ℕ, zero, suc, _≤_, _<_}
+use mathlib.Core.Path.{_≡_, refl}
 use mathlib.Core.Bool.{Bool, true, false, cond, _&&_, false≢true}
-use mathlib.Core.List.{List, [], _∷_}
-use mathlib.Core.Logic.{_⊎_, inl, inr}
+use mathlib.Core.List.{List}
 use native.Mathlib.Omega.{arith}
 use native.Mathlib.Decide.{decLe}
 use lib.Dec.{leb, eqb}
 use lib.ListN.{length, getD}
 use borrow.Author.Tests.{leb-true, le-leb, eqb-true, eqb-false, eq-eqb}
-use Rattle.days.specs.Days.{lastDay, theNumber, daysFrom}
+use Rattle.days.specs.Days.{lastDay, theNumber}
 use Rattle.entries.specs.Entries.{withEntries, capacity, entryAt}
 use Rattle.query.specs.declared.Query.{Query}
 use Rattle.query.specs.Conditions.{bodyArcsInRange}
@@ -19,90 +18,17 @@ use Rattle.query.specs.Query.{sunArcs, conditionsMet, matches, refusalOf}
 use Rattle.panchanga.specs.TrueLongitudes.{isEdition}
 use Rattle.query.proofs.Accepted.{accepted-by}
 use Rattle.search.specs.Look.{nextDay, notExamined, examinedOf}
-use Rattle.search.specs.Days.{filtered, spanLength, span, matchingDays, visitedFrom, visitedDays}
+use Rattle.search.specs.Days.{spanLength, span, matchingDays, visitedFrom, visitedDays}
 use Rattle.search.proofs.Arc.{next-after}
 use Rattle.entries.proofs.Laws.{entries-read}
+use Rattle.entries.proofs.Lists.{Ascending, Has, weaken, days-ascend, listed, has-filtered, filtered-has, in-days, has-at}
 use Rattle.search.proofs.Skip.{matching-visited, visit-end, visit-more, bound}
-
--- each element is at least a, and below those behind it
-pub Ascending : ℕ → List ℕ → Type 0
-Ascending a [] = Unit {0}
-Ascending a (x ∷ xs) = (a ≤ x) × Ascending (suc x) xs
-
--- a list has x
-pub Has : ℕ → List ℕ → Type 0
-Has x [] = ⊥
-Has x (y ∷ ys) = (x ≡ y) ⊎ Has x ys
-
--- a list has each element at most once, where it ascends
-pub low : (a x : ℕ) (xs : List ℕ) → Ascending a xs → Has x xs → a ≤ x
-unfolding Ascending Has
-low a x (y ∷ ys) u (inl e) = omega (arith, u .0)
-low a x (y ∷ ys) u (inr h) = omega (arith, u .0, low (suc y) x ys (u .1) h)
-
-pub once : (a x : ℕ) (xs : List ℕ) → Ascending a (x ∷ xs) → Has x xs → ⊥
-unfolding Ascending
-once a x xs u h = omega (arith, low (suc x) x xs (u .1) h)
-
-weaken : (a b : ℕ) (xs : List ℕ) → a ≤ b → Ascending b xs → Ascending a xs
-unfolding Ascending
-weaken a b [] h u = tt
-weaken a b (x ∷ xs) h u = (omega (arith, u .0), u .1)
-
-days-ascend : (p : ℕ → Bool) (a n : ℕ) → Ascending a (filtered p (daysFrom a n))
-unfolding Ascending filtered daysFrom
-days-ascend p a zero = tt
-days-ascend p a (suc n) = go (p a) (days-ascend p (suc a) n)
-  where
-    go : (b : Bool) → Ascending (suc a) (filtered p (daysFrom (suc a) n)) → Ascending a (cond b (a ∷ filtered p (daysFrom (suc a) n)) (filtered p (daysFrom (suc a) n)))
-    go true u = (omega arith, u)
-    go false u = weaken a (suc a) (filtered p (daysFrom (suc a) n)) (omega arith) u
 
 pub matching-ascend : (q : Query) → Ascending (q .first) (matchingDays q)
 unfolding matchingDays
 matching-ascend q = days-ascend (conditionsMet q) (q .first) (spanLength q)
 
 -- a day is in the list if and only if it is in the span and meets all conditions given
-abbrev Inside : (ℕ → Bool) → ℕ → ℕ → ℕ → Type 0
-Inside p x a n = (a ≤ x) × (x < a + n) × (p x ≡ true)
-
-listed : (p : ℕ → Bool) (x a n : ℕ) → Has x (filtered p (daysFrom a n)) → Inside p x a n
-unfolding Has filtered daysFrom
-listed p x a zero h = absurd h
-listed p x a (suc n) h = go (p a) refl h (λ k. let l = listed p x (suc a) n k in (omega (arith, l .0), omega (arith, l .1), l .2))
-  where
-    go : (b : Bool) → p a ≡ b → Has x (cond b (a ∷ filtered p (daysFrom (suc a) n)) (filtered p (daysFrom (suc a) n))) → (Has x (filtered p (daysFrom (suc a) n)) → Inside p x a (suc n)) → Inside p x a (suc n)
-    go true e (inl k) deeper = (omega arith, omega arith, ap p k ∙ e)
-    go true e (inr k) deeper = deeper k
-    go false e k deeper = deeper k
-
-has-filtered : (p : ℕ → Bool) (x : ℕ) → p x ≡ true → (xs : List ℕ) → Has x xs → Has x (filtered p xs)
-unfolding Has filtered
-has-filtered p x t (y ∷ ys) (inl e) = subst (λ (b : Bool). Has x (cond b (y ∷ filtered p ys) (filtered p ys))) (sym (ap p (sym e) ∙ t)) (inl e)
-has-filtered p x t (y ∷ ys) (inr h) = go (p y) (has-filtered p x t ys h)
-  where
-    go : (b : Bool) → Has x (filtered p ys) → Has x (cond b (y ∷ filtered p ys) (filtered p ys))
-    go true k = inr k
-    go false k = k
-
-filtered-has : (p : ℕ → Bool) (x : ℕ) (xs : List ℕ) → Has x (filtered p xs) → Has x xs
-unfolding Has filtered
-filtered-has p x (y ∷ ys) h = go (p y) h (λ k. filtered-has p x ys k)
-  where
-    go : (b : Bool) → Has x (cond b (y ∷ filtered p ys) (filtered p ys)) → (Has x (filtered p ys) → Has x ys) → Has x (y ∷ ys)
-    go true (inl e) deeper = inl e
-    go true (inr k) deeper = inr (deeper k)
-    go false k deeper = inr (deeper k)
-
-in-days : (x a n : ℕ) → a ≤ x → x < a + n → Has x (daysFrom a n)
-unfolding Has daysFrom
-in-days x a zero h k = absurd (omega arith)
-in-days x a (suc n) h k = go (decLe (suc a) x) (λ l. in-days x (suc a) n l (omega arith))
-  where
-    go : Dec (suc a ≤ x) → (suc a ≤ x → Has x (daysFrom (suc a) n)) → Has x (a ∷ daysFrom (suc a) n)
-    go (yes l) deeper = inr (deeper l)
-    go (no l) deeper = inl (omega arith)
-
 pub record Listed (q : Query) (x : ℕ) : Type 0 where
   pub from-first : q .first ≤ x
   pub to-last : x ≤ q .last
@@ -150,12 +76,6 @@ looked-later q n r = go (isEdition (q .edition)) (leb n lastDay) (eqb (refusalOf
     go true true false h e r = absurd (eqb-false _ _ e r)
     go true false e h f r = absurd (omega arith)
     go false d e h f r = absurd (omega arith)
-
-has-at : (k : ℕ) (xs : List ℕ) → k < length xs → Has (getD xs k 0) xs
-unfolding Has
-has-at k [] h = absurd (omega arith)
-has-at zero (x ∷ xs) h = inl refl
-has-at (suc k) (x ∷ xs) h = inr (has-at k xs (omega arith))
 
 -- an entry of the list that was written is the day at that place of the matching days
 pub listed-read :

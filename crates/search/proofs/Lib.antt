@@ -1,10 +1,8 @@
-pub mod Filter
 pub mod Circle
 pub mod Arc
 pub mod Skip
 pub mod Look
 pub mod Limit
-pub mod Putting
 pub mod Passes
 pub mod Answers
 pub mod Laws

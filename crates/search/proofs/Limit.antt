@@ -12,6 +12,7 @@ use native.Mathlib.Decide.{decLe}
 use native.Mathlib.Nat.{suc-mul}
 use lib.ListN.{length}
 use Rattle.longitudes.specs.Longitudes.{circle, differenceOf}
+use Rattle.entries.specs.Runs.{filtered}
 use Rattle.longitudes.proofs.Sun.{unrolled, unrolled-at, mono, days-most, days-least, day-least}
 use Rattle.query.specs.declared.Arc.{Arc}
 use Rattle.query.specs.declared.BodyArcs.{BodyArcs}
@@ -19,7 +20,7 @@ use Rattle.query.specs.declared.Query.{Query}
 use Rattle.query.specs.Conditions.{givenArcs, arcsGiven, nearestStart, bodyArcsInRange}
 use Rattle.query.specs.Query.{sunArcs}
 use Rattle.search.specs.Look.{sunOn, sunInArcs, secondsAhead, nextDay}
-use Rattle.search.specs.Days.{filtered, spanLength, span, visitedFrom, visitedDays, visitLimit}
+use Rattle.search.specs.Days.{spanLength, span, visitedFrom, visitedDays, visitLimit}
 use Rattle.search.proofs.Circle.{past, circles, past-low, past-circles, ahead-past}
 use Rattle.search.proofs.Arc.{Each, InCircle, given-in-circle, Past, outside-each, each-outside, nearest-ahead, nearest-low, outside-given, given-decides, no-arcs, next-in, next-out}
 use Rattle.search.proofs.Skip.{visit-end, visit-more, filtered-visited}

@@ -10,7 +10,8 @@ use lib.ListN.{length, drop}
 use lib.Seq.{drop-drop}
 use borrow.Author.Tests.{le-leb}
 use Rattle.days.specs.Days.{lastDay}
-use Rattle.entries.specs.Entries.{capacity, withEntry}
+use Rattle.entries.specs.Entries.{capacity, withEntry, withEntriesFrom}
+use Rattle.entries.specs.Runs.{filtered}
 use Rattle.entries.proofs.Laws.{with-entry-length}
 use Rattle.query.specs.declared.Query.{Query}
 use Rattle.query.specs.Conditions.{bodyArcsInRange}
@@ -20,10 +21,10 @@ use Rattle.search.specs.declared.Examined.{Examined}
 use Rattle.search.specs.declared.Place.{Place}
 use Rattle.search.specs.declared.Tally.{Tally}
 use Rattle.search.specs.Look.{nextDay, examinedOf}
-use Rattle.search.specs.Days.{filtered, visitedFrom, visitedDays, matchingDays}
-use Rattle.search.specs.Passes.{VisitAt, visitsFrom, matchesFrom, Reached, firstPlace, placeAfter, NoneAfter, withEntriesFrom, Scannable, LastMatch, Tallied}
+use Rattle.search.specs.Days.{visitedFrom, visitedDays, matchingDays}
+use Rattle.search.specs.Passes.{VisitAt, visitsFrom, matchesFrom, Reached, firstPlace, placeAfter, NoneAfter, Scannable, LastMatch, Tallied}
 use Rattle.search.proofs.Arc.{next-after}
-use Rattle.search.proofs.Filter.{filtered-in, filtered-out, filtered-nil}
+use Rattle.entries.proofs.Filter.{filtered-in, filtered-out, filtered-nil}
 use Rattle.search.proofs.Skip.{rest-end, rest-more, visit-end, visit-more, skipped, outside-unmatched, matching-visited}
 use Rattle.search.proofs.Look.{examined-at}
 

@@ -9,6 +9,7 @@ use lib.Dec.{leb, ltb}
 use lib.ListN.{length, getD, List·getD-map}
 use Rattle.days.specs.Days.{weekdayOn, pairAt}
 use Rattle.days.proofs.Weekdays.{only-in-set, only-in-range}
+use Rattle.entries.specs.Runs.{filtered}
 use Rattle.integers.specs.RoundedUp.{roundedUp}
 use Rattle.longitudes.specs.Longitudes.{circle, longitudeAt, differenceOf}
 use Rattle.longitudes.proofs.Subtraction.{difference-small}
@@ -18,7 +19,7 @@ use Rattle.query.specs.declared.BodyArcs.{BodyArcs}
 use Rattle.query.specs.Conditions.{noArc, noArcs, onlyArc, meets, weekdayMet, givenArcs, inArc, inSome, inArcs, nearestStart, bodyMet, arcsMet, askedInRange, weekdaysInRange, arcInRange, bodyArcsInRange}
 use Rattle.query.specs.Query.{conditionsMet}
 use Rattle.search.specs.Look.{sunOn, sunInArcs, nextDay}
-use Rattle.search.specs.Days.{filtered, spanLength, span, matchingDays, visitedFrom, visitedDays, visitLimit}
+use Rattle.search.specs.Days.{spanLength, span, matchingDays, visitedFrom, visitedDays, visitLimit}
 use Rattle.search.specs.Single.{Single, setOf, queryOf, inSingleArc, singleArc, sunInSingle, singleMet, singleNext, singleVisits, singleLimit}
 
 -- THE LAW of one weekday, and of its range

@@ -9,14 +9,15 @@ use native.Mathlib.Decide.{decLe}
 use lib.Dec.{leb}
 use borrow.Author.Tests.{leb-true, leb-false, le-leb, lt-leb}
 use Rattle.days.specs.Days.{daysFrom}
+use Rattle.entries.specs.Runs.{filtered}
 use Rattle.query.specs.declared.Query.{Query}
 use Rattle.query.specs.Conditions.{givenArcs, bodyArcsInRange}
 use Rattle.query.specs.Query.{sunArcs, conditionsMet}
 use Rattle.query.proofs.Conditions.{sun-not-met}
 use Rattle.search.specs.Look.{sunInArcs, nextDay}
-use Rattle.search.specs.Days.{filtered, spanLength, span, matchingDays, visitedFrom, visitedDays}
+use Rattle.search.specs.Days.{spanLength, span, matchingDays, visitedFrom, visitedDays}
 use Rattle.search.proofs.Arc.{given-in-circle, outside-each, each-outside, stays-outside, outside-given, given-decides, next-in, next-out, next-after}
-use Rattle.search.proofs.Filter.{filtered-at, filtered-cons, filtered-front}
+use Rattle.entries.proofs.Filter.{filtered-at, filtered-cons, filtered-front}
 
 -- the visits from day d on
 abbrev pub rest : Query → ℕ → List ℕ

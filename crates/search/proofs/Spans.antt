@@ -1,40 +1,19 @@
 -- The parts of a span: the matching days of parts that adjoin, put together, are those of the whole, by a filter over lists that are joined; and
 -- no part of a query that is not refused is refused. Assumes nothing.
-use Prim.Native.Nat.{ℕ, zero, suc, _+_, _-_, _≤_}
+use Prim.Native.Nat.{ℕ, _+_, _-_, _≤_}
 use mathlib.Core.Path.{_≡_, refl, ap, ap₂, sym, _∙_}
-use mathlib.Core.Bool.{Bool, true, false, cond}
+use mathlib.Core.Bool.{true}
 use mathlib.Core.List.{List, [], _∷_, _++_}
 use native.Mathlib.Omega.{arith}
 use Rattle.days.specs.Days.{daysFrom}
+use Rattle.entries.specs.Runs.{filtered}
+use Rattle.entries.proofs.Lists.{days-join, filtered-join}
 use Rattle.query.specs.declared.Query.{Query}
 use Rattle.query.specs.Conditions.{conditionsInRange, elementsMet}
 use Rattle.query.specs.Query.{conditionsMet, refusalOf}
 use Rattle.query.proofs.Accepted.{accepted-by, accepts}
-use Rattle.search.specs.Days.{filtered, matchingDays}
+use Rattle.search.specs.Days.{matchingDays}
 use Rattle.search.specs.Spans.{between}
-
-days-join : (a m n : ℕ) → daysFrom a (m + n) ≡ daysFrom a m ++ daysFrom (a + m) n
-unfolding daysFrom
-days-join a zero n =
-    let count : 0 + n ≡ n = omega arith in
-    let here : a ≡ a + 0 = omega arith in
-    ap (daysFrom a) count ∙ ap (λ (b : ℕ). daysFrom b n) here
-days-join a (suc m) n =
-    let count : suc m + n ≡ suc (m + n) = omega arith in
-    let later : suc a + m ≡ a + suc m = omega arith in
-    ap (daysFrom a) count ∙ ap (λ (l : List ℕ). a ∷ l) (days-join (suc a) m n ∙ ap (λ (b : ℕ). daysFrom (suc a) m ++ daysFrom b n) later)
-
-filtered-join : (p : ℕ → Bool) (xs ys : List ℕ) → filtered p (xs ++ ys) ≡ filtered p xs ++ filtered p ys
-unfolding filtered
-filtered-join p [] ys = refl
-filtered-join p (x ∷ xs) ys = go (p x) (filtered-join p xs ys)
-  where
-    go :
-        (b : Bool) →
-        filtered p (xs ++ ys) ≡ filtered p xs ++ filtered p ys →
-        cond b (x ∷ filtered p (xs ++ ys)) (filtered p (xs ++ ys)) ≡ cond b (x ∷ filtered p xs) (filtered p xs) ++ filtered p ys
-    go true h = ap (λ (l : List ℕ). x ∷ l) h
-    go false h = h
 
 module _ (q : Query) where
   -- which days match does not hang on the span

@@ -1,6 +1,6 @@
 -- The days of a query's span: those that match, and those that the scan visits.
 -- Assumes nothing.
-use mathlib.Core.Bool.{Bool, true, false, cond}
+use mathlib.Core.Bool.{true, false}
 use mathlib.Core.List.{List, [], _∷_}
 use Prim.Native.Nat.{ℕ, zero, suc, _+_, _-_, _*_, _/_}
 use lib.Dec.{leb}
@@ -8,13 +8,9 @@ use lib.ListN.{length}
 use Rattle.query.specs.declared.Query.{Query}
 use Rattle.query.specs.Conditions.{givenArcs}
 use Rattle.days.specs.Days.{daysFrom}
+use Rattle.entries.specs.Runs.{filtered}
 use Rattle.query.specs.Query.{sunArcs, conditionsMet}
 use Rattle.search.specs.Look.{sunInArcs, nextDay}
-
--- the elements of a list that pass a test, in their order
-unfoldable pub filtered : (ℕ → Bool) → List ℕ → List ℕ
-filtered p [] = []
-filtered p (x ∷ xs) = cond (p x) (x ∷ filtered p xs) (filtered p xs)
 
 -- how many days the span has, both ends counted
 abbrev pub spanLength : Query → ℕ

@@ -1,14 +1,14 @@
 -- What only contracts of private functions speak of: where a longitude stands to a body's arcs, the look without the span, the walk's turn, and what the passes over the visited days rely on and leave.
 -- Assumes nothing.
 use mathlib.Core.Bool.{Bool, true, false, cond, _&&_}
-use mathlib.Core.List.{List, [], _∷_}
+use mathlib.Core.List.{List, _∷_}
 use mathlib.Core.Path.{_≡_}
 use Prim.Native.Nat.{ℕ, _+_, _-_, _<_, _≤_}
 use lib.Dec.{leb}
 use lib.ListN.{length, drop}
 use Rattle.days.specs.Refusals.{accepted, outOfRange}
 use Rattle.days.specs.Days.{lastDay}
-use Rattle.entries.specs.Entries.{withEntry}
+use Rattle.entries.specs.Runs.{filtered}
 use Rattle.longitudes.specs.Longitudes.{circle, differenceOf}
 use Rattle.query.specs.declared.Arc.{Arc}
 use Rattle.query.specs.declared.BodyArcs.{BodyArcs}
@@ -20,7 +20,7 @@ use Rattle.search.specs.declared.Approach.{Approach}
 use Rattle.search.specs.declared.Place.{Place}
 use Rattle.search.specs.declared.Tally.{Tally}
 use Rattle.search.specs.Look.{nextDay, notExamined}
-use Rattle.search.specs.Days.{filtered, matchingDays, visitedFrom, visitedDays}
+use Rattle.search.specs.Days.{matchingDays, visitedFrom, visitedDays}
 
 -- of a body's arcs the first that is given, or the second; and both are given
 unfoldable pub leadingArc : BodyArcs → Arc
@@ -82,11 +82,6 @@ pub record Scannable (q : Query) (start : Place) (count until room : ℕ) : Type
   pub fits : count ≤ room
   pub ends : until ≤ q .last
   pub none-later : NoneAfter q until
-
--- a list with the days' entries from entry k on; a day for which it has no entry is not put
-unfoldable pub withEntriesFrom : List ℕ → ℕ → List ℕ → List ℕ
-withEntriesFrom list k [] = list
-withEntriesFrom list k (d ∷ ds) = withEntriesFrom (withEntry list k d) (k + 1) ds
 
 -- a day of the span after which none matches
 pub record LastMatch (q : Query) (d : ℕ) : Type 0 where

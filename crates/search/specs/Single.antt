@@ -7,6 +7,7 @@ use lib.Dec.{leb, ltb}
 use lib.ListN.{length, getD}
 use Rattle.days.specs.Days.{weekdayOn, pairAt}
 use Rattle.days.specs.Weekdays.{bitOf}
+use Rattle.entries.specs.Runs.{filtered}
 use Rattle.integers.specs.RoundedUp.{roundedUp}
 use Rattle.longitudes.specs.Longitudes.{longitudeAt, differenceOf}
 use Rattle.query.specs.declared.Asked.{Asked}
@@ -15,7 +16,7 @@ use Rattle.query.specs.declared.Arc.{Arc}
 use Rattle.query.specs.declared.Query.{Query}
 use Rattle.query.specs.Conditions.{noArc, onlyArc, meets, eachBody, queryElementsMet}
 use Rattle.search.specs.Look.{sunOn}
-use Rattle.search.specs.Days.{filtered, spanLength, span}
+use Rattle.search.specs.Days.{spanLength, span}
 
 pub record Single : Type 0 where
   pub first : ℕ

@@ -13,13 +13,13 @@ ghost use mathlib.Core.Bool.{true};
 ghost use Prim.Native.Nat.{_+_, _≤_};
 ghost use lib.ListN.{length, drop};
 ghost use Rattle.days.specs.Days.{lastDay, weekdayOn};
-ghost use Rattle.entries.specs.Entries.{capacity};
+ghost use Rattle.entries.specs.Entries.{capacity, withEntriesFrom};
 ghost use Rattle.query.specs.Conditions.{weekdayMet, arcsGiven, bodyArcsInRange};
 ghost use Rattle.query.specs.Query.{inSpan, refusalOf};
 ghost use Rattle.search.specs.Look.{notExamined, examinedOf};
 ghost use Rattle.search.specs.Days.{matchingDays};
 ghost use Rattle.search.specs.Search.{Measured, Searched};
-ghost use Rattle.search.specs.Passes.{leadingArc, bothGiven, approachTo, Approached, examinedAnyDay, VisitAt, firstPlace, placeAfter, Scannable, withEntriesFrom, Tallied};
+ghost use Rattle.search.specs.Passes.{leadingArc, bothGiven, approachTo, Approached, examinedAnyDay, VisitAt, firstPlace, placeAfter, Scannable, Tallied};
 
 // The most that the mean Sun advances in a day, in seconds of arc.
 const SUN_ADVANCE: u32 = 3549;

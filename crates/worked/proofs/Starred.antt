@@ -3,6 +3,7 @@
 use mathlib.Core.Path.{_≡_, refl}
 use mathlib.Core.List.{map}
 use Rattle.days.specs.Days.{inRange, dayOf, daysFrom}
+use Rattle.entries.specs.Runs.{filtered}
 use Rattle.integers.specs.Integers.{floorOver, reduced}
 use Rattle.civil.specs.Calendar.{leap, monthDays, lost, dateExists}
 use Rattle.civil.specs.Serial.{serialOf}
@@ -16,7 +17,7 @@ use Rattle.panchanga.specs.OnDays.{trueSunAt, trueMoonAt, tithiAt, nakshatraAt,
 use Rattle.query.specs.Conditions.{meets, weekdayMet, givenArcs, inArc, inSome, inArcs, nearestStart, arcsMet, elementsMet, askedInRange, weekdaysInRange, arcInRange, bodyArcsInRange, arcsInRange, conditionsInRange}
 use Rattle.query.specs.Query.{conditionsMet, refusalOf}
 use Rattle.search.specs.Look.{sunInArcs, nextDay}
-use Rattle.search.specs.Days.{filtered, matchingDays, visitedFrom, visitedDays}
+use Rattle.search.specs.Days.{matchingDays, visitedFrom, visitedDays}
 use Rattle.search.specs.Search.{resultOf}
 use Rattle.worked.specs.Cases.{Case, starred}
 

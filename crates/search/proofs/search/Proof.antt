@@ -8,7 +8,7 @@ use Rattle.query.specs.Query.{refusalOf}
 use Rattle.query.proofs.Accepted.{accepted-by}
 use Rattle.search.proofs.Answers.{refused, fits-span, too-many, all-written}
 use Rattle.search.proofs.Passes.{scannable-first, scannable-rest}
-use Rattle.search.proofs.Putting.{put-all, put-length, copied-length, copied-all, copied-and-put}
+use Rattle.entries.proofs.Putting.{put-all, put-length, copied-length, copied-all, copied-and-put}
 use Rattle.search.proofs.search.Statement.{statement}
 use Rattle.search.proofs.search.Tie as tie
 

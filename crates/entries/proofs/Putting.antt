@@ -7,9 +7,8 @@ use native.Mathlib.Omega.{arith}
 use borrow.Author.Tests.{le-ltb}
 use lib.ListN.{length, take, drop, take-append-drop, length-append, length-drop}
 use lib.Seq.{take-at, take-length, drop-length, length-take-le}
-use Rattle.entries.specs.Entries.{entries, capacity, withEntry, withEntries}
+use Rattle.entries.specs.Entries.{entries, capacity, withEntry, withEntries, withEntriesFrom}
 use Rattle.entries.proofs.Laws.{entries-length, entries-next, with-entry-length, with-entries-length}
-use Rattle.search.specs.Passes.{withEntriesFrom}
 
 put-append : (l : List ℕ) (k : ℕ) (xs ys : List ℕ) → withEntriesFrom l k (xs ++ ys) ≡ withEntriesFrom (withEntriesFrom l k xs) (k + length xs) ys
 unfolding withEntriesFrom

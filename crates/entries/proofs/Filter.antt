@@ -7,7 +7,7 @@ use mathlib.Core.List.{List, [], _∷_}
 use native.Mathlib.Omega.{arith}
 use lib.ListN.{length}
 use Rattle.days.specs.Days.{daysFrom}
-use Rattle.search.specs.Days.{filtered}
+use Rattle.entries.specs.Runs.{filtered}
 
 pub filtered-at : (p : ℕ → Bool) (a m b n : ℕ) → a ≡ b → m ≡ n → filtered p (daysFrom a m) ≡ filtered p (daysFrom b n)
 filtered-at p a m b n e f = ap (filtered p) (ap₂ daysFrom e f)
