@@ -42,21 +42,23 @@ pub struct MeanLongitudes {
 }
 
 // A body's longitude at the epoch, the cycle's amount, and its motion a day, p / q forwards.
-struct Motion {
-    k: u32,
-    d: u32,
-    p: u32,
-    q: u32,
+pub struct Motion {
+    pub k: u32,
+    pub d: u32,
+    pub p: u32,
+    pub q: u32,
 }
+
+pub const SUN: Motion = Motion {
+    k: 1258860,
+    d: 6551,
+    p: 124186,
+    q: 35,
+};
 
 // Paper 01's table, in the order of `Body`. The node goes 10876 / 57 backwards: a circle less that forwards.
 const TABLE: [Motion; BODIES] = [
-    Motion {
-        k: 1258860,
-        d: 6551,
-        p: 124186,
-        q: 35,
-    },
+    SUN,
     Motion {
         k: 1256760,
         d: 13571,

@@ -1,0 +1,2 @@
+pub mod Zodiac
+pub mod Passed
