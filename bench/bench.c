@@ -25,6 +25,10 @@ static void ours(uint32_t width, size_t len) { sink += graha_search(0, DAYS - 1,
 static void plain(uint32_t width, size_t len) { sink += plain_search(0, DAYS - 1, 0, width, 0, other, len).length; }
 static void every(uint32_t width, size_t len) { sink += plain_every_day(0, DAYS - 1, 0, width, 0, other, len).length; }
 
+/* The sign entries of the whole span. */
+static void signs(uint32_t unused, size_t len) { (void)unused, sink += graha_sign_entries(0, DAYS - 1, list, len); }
+static void plain_signs(uint32_t unused, size_t len) { (void)unused, sink += plain_sign_entries(0, DAYS - 1, other, len).length; }
+
 typedef uint32_t (*number)(uint32_t);
 
 static void all_days(number f) {
@@ -96,6 +100,8 @@ static void *search_all(void *unused) {
     ours(SPARSE, needed(SPARSE));
     ours(DENSE, needed(DENSE));
     sink += graha_search_length(0, DAYS - 1, 0, SPARSE, 0) + graha_search_looked(0, DAYS - 1, 0, SPARSE, 0);
+    signs(0, ROOM);
+    sink += graha_sign_entries_length(0, DAYS - 1);
     return unused;
 }
 static void *places(void *unused) {
@@ -157,6 +163,13 @@ int main(int count, char **word) {
     pair("dense search, a list that just fits", search_job(ours, DENSE, needed(DENSE)), search_job(plain, DENSE, ROOM), 1.8);
     pair("dense search, refused: an entry short", search_job(ours, DENSE, needed(DENSE) - 4), search_job(plain, DENSE, ROOM), 1.1);
     pair("sparse search, against a test of every day", search_job(ours, SPARSE, ROOM), search_job(every, SPARSE, ROOM), -50);
+    size_t signs_needed = 4 * (size_t)graha_sign_entries_length(0, DAYS - 1);
+    pair("sign entries, against a test of every day", search_job(signs, 0, ROOM), search_job(plain_signs, 0, ROOM), -8);
+    if (memcmp(list, other, signs_needed)) {
+        puts("the two lists of sign entries differ");
+        return 1;
+    }
+    pair("sign entries, a list that just fits", search_job(signs, 0, signs_needed), search_job(plain_signs, 0, ROOM), -8);
     printf("%-46s %15s %15s %8s   %s\n", "each of 401,600 days", "proved", "plain C", "ratio", "to reach");
     pair("mean Sun", call_job(graha_mean_sun), call_job(plain_mean_sun), 1.1);
     pair("mean Moon", call_job(graha_mean_moon), call_job(plain_mean_moon), 1.1);

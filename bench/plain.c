@@ -200,3 +200,24 @@ plain_found plain_every_day(uint32_t first, uint32_t last, uint32_t start, uint3
     }
     return found;
 }
+
+plain_found plain_sign_entries(uint32_t first, uint32_t last, uint8_t *list, size_t len) {
+    plain_found found = {first > LAST || last > LAST ? 2 : last < first ? 5 : 0, 0, 0};
+    if (found.refusal) return found;
+    size_t at = 0;
+    uint32_t before = sun(first) / 108000;
+    for (uint32_t day = first + 1; day <= last; day++) {
+        uint32_t sign = sun(day) / 108000;
+        if (sign != before) {
+            if (at + 4 > len) {
+                found.refusal = 7;
+                return found;
+            }
+            put(list, at, day);
+            at += 4;
+            found.length++;
+        }
+        before = sign;
+    }
+    return found;
+}

@@ -97,5 +97,16 @@ int main(void)
         print_date(day_at(list, length - 1));
     }
     free(list);
+    if (result != GRAHA_ACCEPTED) return 1;
+
+    /* The days of the year from that date on which the mean Sun enters a sign: at most 366 / 30 + 1. */
+    uint8_t entries[4 * 13];
+    result = graha_sign_entries(day, day + 365, entries, sizeof entries);
+    length = graha_sign_entries_length(day, day + 365);
+    printf("the mean Sun enters a sign on %u days of the year: result %u; the first and the last:\n", (unsigned)length, (unsigned)result);
+    if (result == GRAHA_ACCEPTED && length > 0) {
+        print_date(day_at(entries, 0));
+        print_date(day_at(entries, length - 1));
+    }
     return result == GRAHA_ACCEPTED ? 0 : 1;
 }

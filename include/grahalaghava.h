@@ -23,9 +23,9 @@ enum {
     GRAHA_OUT_OF_RANGE = 2,      /* a day, a pair or a Saka year outside the table, or the step past its last day */
     GRAHA_BAD_INPUT = 3,         /* months, tithis or weekday of a Saka date */
     GRAHA_NO_SUCH_WEEKDAY = 4,   /* none of a Saka date's three days has the weekday */
-    GRAHA_LAST_BEFORE_FIRST = 5, /* a search whose last day is before its first */
+    GRAHA_LAST_BEFORE_FIRST = 5, /* a span whose last day is before its first */
     GRAHA_BAD_CONDITION = 6,     /* a search's weekday, arc start or arc width */
-    GRAHA_LIST_TOO_SHORT = 7,    /* more matching days than the list has entries */
+    GRAHA_LIST_TOO_SHORT = 7,    /* more days than the list has entries */
     GRAHA_NO_EXTRA_MONTH = 8     /* a Saka date's extra month is still to come, and none is reckoned */
 };
 
@@ -113,6 +113,13 @@ uint32_t graha_search(uint32_t first, uint32_t last, uint32_t sun_start, uint32_
 uint32_t graha_search_length(uint32_t first, uint32_t last, uint32_t sun_start, uint32_t sun_width, uint32_t weekday);
 /* How many days the search looks at to find them: for results 0 and 7, else 0. */
 uint32_t graha_search_looked(uint32_t first, uint32_t last, uint32_t sun_start, uint32_t sun_width, uint32_t weekday);
+
+/* Every day after first, up to last, on which the mean Sun stands in another sign of 30 degrees (108000 seconds) than the day before. The list, its
+ * length and the bytes behind the days are as in the search. Result 2: first or last above 401599; 5: last before first; 7: more days than list_len / 4.
+ * A list of (last - first + 1) / 30 + 1 entries always does. */
+uint32_t graha_sign_entries(uint32_t first, uint32_t last, uint8_t *list, size_t list_len);
+/* How many these days are, however long a list: for results 0 and 7, else 0. */
+uint32_t graha_sign_entries_length(uint32_t first, uint32_t last);
 
 #ifdef __cplusplus
 }

@@ -2,3 +2,4 @@
 mod calendar;
 mod positions;
 mod searches;
+mod signs;
