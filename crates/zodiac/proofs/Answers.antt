@@ -9,26 +9,34 @@ use lib.Dec.{leb}
 use lib.ListN.{length}
 use borrow.Author.Tests.{le-leb, lt-leb, eq-eqb, ne-eqb}
 use Rattle.days.specs.declared.Day.{Day}
-use Rattle.days.specs.declared.NumberAnswer.{NumberAnswer}
-use Rattle.days.specs.Days.{theNumber, noNumber, inRange, onDay, spanRefusal}
-use Rattle.days.proofs.Laws.{span-accepted, span-refused, span-given}
+use Rattle.days.specs.Days.{theNumber, noNumber, inRange, spanRefusal}
+use Rattle.days.proofs.Laws.{given, refused, span-accepted, span-refused, span-given}
 use Rattle.entries.specs.Entries.{capacity, withEntries, withEntriesFrom}
 use Rattle.entries.proofs.Putting.{put-all}
 use Rattle.longitudes.specs.declared.Body.the-variants.{Sun}
 use Rattle.longitudes.specs.declared.MeanLongitude.{MeanLongitude}
-use Rattle.longitudes.specs.Answers.{theLongitude, noLongitude, longitudeOf}
+use Rattle.longitudes.specs.Answers.{longitudeOf}
+use Rattle.longitudes.proofs.Answers.{longitude-given, longitude-refused}
 use Rattle.zodiac.specs.declared.Listing.{Listing}
 use Rattle.zodiac.specs.Zodiac.{signAt, signOf, signEntries, lengthNeeded, entriesResult, listingOf, entriesAfter}
 use Rattle.zodiac.specs.Passed.{signsPassed, daysPassing}
 use Rattle.zodiac.proofs.Entering.{by-sign, entries-count}
 
-pub sign-answer : (d : Day) (sun : MeanLongitude) → sun ≡ longitudeOf Sun d → record { refusal = sun .refusal; number = sun .seconds / 108000 } ≡ signOf d
-unfolding longitudeOf onDay
-sign-answer d sun e = rw e (go (inRange d))
-  where
-    go : (b : Bool) → _≡_ {A = NumberAnswer} (record { refusal = cond b (theLongitude 0 d) noLongitude .refusal; number = cond b (theLongitude 0 d) noLongitude .seconds / 108000 }) (cond b (theNumber (signAt d)) (noNumber 2))
-    go true = refl
-    go false = refl
+-- the sign of a day, from its longitude
+module _ (d : Day) (sun : MeanLongitude) (e : sun ≡ longitudeOf Sun d) where
+  pub sign-refused : (sun .refusal ≡ 0 → ⊥) → noNumber (sun .refusal) ≡ signOf d
+  sign-refused h = go (inRange d) refl
+    where
+      go : (b : Bool) → inRange d ≡ b → noNumber (sun .refusal) ≡ signOf d
+      go true r = absurd (h (ap (λ (s : MeanLongitude). s .refusal) (e ∙ longitude-given Sun d r)))
+      go false r = ap (λ (s : MeanLongitude). noNumber (s .refusal)) (e ∙ longitude-refused Sun d r) ∙ sym (refused signAt d r)
+
+  pub sign-given : sun .refusal ≡ 0 → theNumber (sun .seconds / 108000) ≡ signOf d
+  sign-given h = go (inRange d) refl
+    where
+      go : (b : Bool) → inRange d ≡ b → theNumber (sun .seconds / 108000) ≡ signOf d
+      go true r = ap (λ (s : MeanLongitude). theNumber (s .seconds / 108000)) (e ∙ longitude-given Sun d r) ∙ sym (given signAt d r)
+      go false r = absurd (omega (arith, h, ap (λ (s : MeanLongitude). s .refusal) (e ∙ longitude-refused Sun d r)))
 
 module _ (first last : ℕ) where
   pub length-refused : (spanRefusal first last ≡ 0 → ⊥) → lengthNeeded first last ≡ noNumber (spanRefusal first last)
@@ -44,9 +52,9 @@ module _ (first last : ℕ) where
     abbrev pub Answered : Listing → List ℕ → Type 0
     Answered found after = (found ≡ listingOf first last (capacity l)) × (after ≡ entriesAfter first last l)
 
-    pub refused : (r : ℕ) → r ≡ spanRefusal first last → (r ≡ 0 → ⊥) → Answered (record { refusal = r; length = 0; examined = 0 }) l
+    pub entries-refused : (r : ℕ) → r ≡ spanRefusal first last → (r ≡ 0 → ⊥) → Answered (record { refusal = r; length = 0; examined = 0 }) l
     unfolding listingOf entriesAfter entriesResult
-    refused r e h =
+    entries-refused r e h =
         let n : spanRefusal first last ≡ 0 → ⊥ = λ z. h (e ∙ z) in
         let s = span-refused first last (cond (leb (length (signEntries first last)) (capacity l)) 0 7) n in
         (rw (s, length-refused n, e), rw (s, ne-eqb (spanRefusal first last) 0 n))

@@ -1,8 +1,8 @@
 -- The entries of a span are the days on which its signs are passed, one after another: between two of these days none enters a sign; by induction on the signs left.
 -- Assumes nothing.
-use mathlib.Core.Path.{_≡_, refl, sym, ap, ap₂, _∙_}
+use mathlib.Core.Path.{_≡_, refl, ap, _∙_}
 use mathlib.Core.Bool.{true, false}
-use mathlib.Core.List.{List, [], _∷_}
+use mathlib.Core.List.{List, _∷_}
 use Prim.Native.Nat.{ℕ, zero, suc, _+_, _-_, _≤_, _<_}
 use native.Mathlib.Decide.{decLe}
 use native.Mathlib.Omega.{arith}
@@ -12,7 +12,7 @@ use Rattle.entries.specs.Runs.{filtered}
 use Rattle.entries.proofs.Filter.{filtered-at, filtered-front, filtered-in, filtered-none}
 use Rattle.zodiac.specs.Zodiac.{entersOn, signEntries}
 use Rattle.zodiac.specs.Passed.{signsPassed, dayPassing, daysPassing}
-use Rattle.zodiac.proofs.Passed.{Passes, passed-at, passed-mono, passed-day, passed-first, stays, enters, day-passing, not-sooner, passed-then}
+use Rattle.zodiac.proofs.Passed.{Passes, passed-at, passed-mono, passed-first, stays, enters, day-passing, not-sooner, passed-then}
 
 -- on the days from a to b, none of which passes a sign more than day a, none enters one
 none-enters : (a b i : ℕ) → signsPassed b ≡ signsPassed a → a + 1 + i ≤ b → entersOn (a + 1 + i) ≡ false

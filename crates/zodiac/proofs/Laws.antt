@@ -2,9 +2,9 @@
 -- so there are few; none comes sooner than the Sun's largest advance allows; and what is written is read back. By the signs passed, which grow by one at each entry.
 -- Assumes nothing.
 use mathlib.Core.Path.{_≡_, sym, ap, _∙_}
-use mathlib.Core.Bool.{true, false, Bool, false≢true}
+use mathlib.Core.Bool.{true, false, false≢true}
 use mathlib.Core.List.{List}
-use Prim.Native.Nat.{ℕ, _+_, _-_, _*_, _/_, _%_, _≤_, _<_}
+use Prim.Native.Nat.{ℕ, _+_, _-_, _/_, _%_, _≤_, _<_}
 use native.Mathlib.Decide.{decLe}
 use native.Mathlib.Omega.{arith}
 use lib.ListN.{length, getD}
@@ -14,10 +14,10 @@ use Rattle.entries.proofs.Laws.{entries-read}
 use Rattle.entries.proofs.Lists.{Ascending, Has, days-ascend, listed, has-filtered, in-days, has-at}
 use Rattle.integers.specs.RoundedUp.{roundedUp}
 use Rattle.longitudes.specs.Longitudes.{longitudeAt}
-use Rattle.longitudes.proofs.Sun.{unrolled, unrolled-at, unrolled-reduced, days-most}
+use Rattle.longitudes.proofs.Sun.{unrolled-at, unrolled-reduced, days-most}
 use Rattle.zodiac.specs.Zodiac.{signSeconds, signOn, entersOn, signEntries}
-use Rattle.zodiac.specs.Passed.{signsPassed, dayPassing}
-use Rattle.zodiac.proofs.Passed.{Passes, passed, passed-at, passed-mono, passed-day, passed-first, sign-on, stays, day-passing, passed-then, passes-next}
+use Rattle.zodiac.specs.Passed.{signsPassed}
+use Rattle.zodiac.proofs.Passed.{Passes, passed, passed-mono, passed-day, passed-first, sign-on, stays, day-passing, passed-then, passes-next}
 use Rattle.zodiac.proofs.Entering.{by-sign, passing-at, entries-count}
 
 -- a day after the span's first, in the span, on which the Sun stands in another sign than the day before

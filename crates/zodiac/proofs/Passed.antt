@@ -1,18 +1,16 @@
 -- The signs passed, by the unrolled Sun: they never fall, a day adds none or one, the sign in which the Sun stands is what is left of them by twelves, and a day enters a
 -- sign exactly where they grow. Assumes nothing.
 use mathlib.Core.Path.{_≡_, refl, sym, ap, _∙_}
-use mathlib.Core.Bool.{Bool, true, false, not}
-use mathlib.Core.Logic.{_⊎_, inl, inr}
-use Prim.Native.Nat.{ℕ, zero, suc, _+_, _-_, _*_, _/_, _%_, _≤_, _<_}
+use mathlib.Core.Bool.{true, false}
+use Prim.Native.Nat.{ℕ, _+_, _-_, _*_, _/_, _%_, _≤_, _<_}
 use native.Mathlib.Decide.{decLe}
 use native.Mathlib.Omega.{arith}
 use borrow.Author.Tests.{eq-eqb, ne-eqb}
-use Rattle.longitudes.specs.Longitudes.{longitudeAt}
 use Rattle.longitudes.proofs.Sun.{unrolled, unrolled-at, unrolled-reduced, mono, day-most, days-most, days-least}
 use Rattle.zodiac.specs.Zodiac.{signOn, entersOn}
 use Rattle.zodiac.specs.Passed.{signsPassed, dayPassing}
 
--- the unrolled seconds are below those of the next sign
+-- by the unrolled Sun
 pub passed : (n : ℕ) → signsPassed n ≡ unrolled n / 108000
 unfolding signsPassed unrolled
 passed n = refl

@@ -14,9 +14,7 @@ ghost use Rattle.zodiac.specs.Zodiac.{signOf, signEntries, lengthNeeded,
 ghost use Rattle.zodiac.specs.Passed.{signsPassed, dayPassing, daysPassing};
 
 // Seconds of arc in a sign.
-pub const SIGN: u32 = 108000;
-
-pub const SIGNS: usize = 12;
+const SIGN: u32 = 108000;
 
 // The seconds that the mean Sun goes in a cycle: eleven circles less the cycle's amount.
 const CYCLE_SECONDS: u32 = 11 * CIRCLE - SUN.d;
@@ -33,10 +31,10 @@ pub fn sign_of(day: Day) -> NumberAnswer
     ensures { λ r. ⌜ r ≡ signOf day ⌝ }
 {
     let sun = longitudes::mean_longitude(Body::Sun, day);
-    NumberAnswer {
-        refusal: sun.refusal,
-        number: sun.seconds / SIGN,
+    if sun.refusal != refusal::NONE {
+        return NumberAnswer::refused(sun.refusal);
     }
+    NumberAnswer::accepted(sun.seconds / SIGN)
 }
 
 // The whole signs from 0° to the mean Sun, with all its circles since the epoch.

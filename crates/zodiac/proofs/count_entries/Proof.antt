@@ -1,9 +1,8 @@
 -- `count_entries` meets its contract: the signs that are passed between the ends.
 use borrow.Author.Needs.{needs}
-use Prim.Native.Nat.{_+_, _-_, _≤_}
-use mathlib.Core.Path.{_≡_, sym, ap₂, _∙_}
+use Prim.Native.Nat.{_+_, _-_}
+use mathlib.Core.Path.{sym}
 use native.Mathlib.Omega.{arith}
-use Rattle.zodiac.specs.Passed.{signsPassed}
 use Rattle.zodiac.proofs.Passed.{passed-at, passed-mono}
 use Rattle.zodiac.proofs.Entering.{entries-count}
 use Rattle.zodiac.proofs.count_entries.Statement.{statement}

@@ -1,7 +1,6 @@
 -- `put_days` meets its contract. The loop's invariant is `Filling`; the measure is the days left to put.
 use borrow.Author.Needs.{needs}
 use Prim.Native.Nat.{_-_}
-use native.Mathlib.Omega.{arith}
 use Rattle.zodiac.proofs.Filling.{Filling, filling-start, filling-next, filling-end}
 use Rattle.zodiac.proofs.put_days.Statement.{statement}
 use Rattle.zodiac.proofs.put_days.Tie as tie

@@ -6,7 +6,7 @@ use Rattle.days.specs.Days.{spanRefusal}
 use Rattle.days.proofs.Laws.{Span, span-accepted}
 use Rattle.zodiac.proofs.Passed.{passed-first, passed-last}
 use Rattle.zodiac.proofs.Entering.{entries-count}
-use Rattle.zodiac.proofs.Answers.{refused, too-many, all-written, entries-put}
+use Rattle.zodiac.proofs.Answers.{entries-refused, too-many, all-written, entries-put}
 use Rattle.zodiac.proofs.sign_entries.Statement.{statement}
 use Rattle.zodiac.proofs.sign_entries.Tie as tie
 
@@ -14,7 +14,7 @@ span-refusal-requires : tie.Need-span-refusal-requires
 span-refusal-requires c κs = search needs
 
 returns : tie.Need-returns
-returns c = refused _ _ _ _ (c .before .span-refusal .ensures) (c .if1 .taken)
+returns c = entries-refused _ _ _ _ (c .before .span-refusal .ensures) (c .if1 .taken)
 
 accepted : (c : tie.Else1) → spanRefusal (c .before .before .before .args .first) (c .before .before .before .args .last) ≡ 0
 accepted c = sym (c .before .span-refusal .ensures) ∙ c .if1 .left
