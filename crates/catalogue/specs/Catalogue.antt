@@ -4,17 +4,14 @@ use mathlib.Core.Bool.{cond}
 use mathlib.Core.List.{List, [], _∷_, _++_}
 use Prim.Native.Nat.{ℕ}
 use lib.Dec.{eqb}
-use Rattle.civil.specs.declared.Date.{Date}
-use Rattle.civil.specs.Calendar.{dateOn}
-use Rattle.days.specs.Days.{pairAt, weekdayOn}
+use Rattle.dated.specs.Dated.{namedDayBytes}
+use Rattle.days.specs.Days.{pairAt}
 use Rattle.panchanga.specs.declared.Panchanga.{Panchanga}
 use Rattle.panchanga.specs.TrueLongitudes.{secondEdition}
 use Rattle.panchanga.specs.OnDays.{panchangaOf}
 use Rattle.text.specs.Ascii.{ascii}
 use Rattle.text.specs.Decimal.{digitsOf}
 use Rattle.text.specs.Lines.{spaced}
-use Rattle.words.specs.Names.{weekdayNames}
-use Rattle.words.specs.Words.{nameAt}
 
 -- the second edition is named behind the first line
 unfoldable pub editionText : ℕ → List ℕ
@@ -28,18 +25,10 @@ catalogueHeading edition length examined =
     ++ (ascii " looked "
     ++ (digitsOf examined ++ (editionText edition ++ ascii "\nday date weekday tithi nakshatra yoga karana\n"))))
 
--- `YEAR-MONTH-DAY`
-unfoldable pub dateBytes : Date → List ℕ
-dateBytes x = digitsOf (x .year) ++ (ascii "-" ++ (digitsOf (x .month) ++ (ascii "-" ++ digitsOf (x .day))))
-
 -- the panchanga elements, in the heading's order, each behind a space
 unfoldable pub elementBytes : Panchanga → List ℕ
 elementBytes p = spaced (p .tithi ∷ p .nakshatra ∷ p .yoga ∷ p .karana ∷ [])
 
 -- the line of day n: its number, its date, its weekday's name and its elements in an edition
 unfoldable pub dayLine : ℕ → ℕ → List ℕ
-dayLine edition n =
-    digitsOf n
-    ++ (ascii " "
-    ++ (dateBytes (dateOn n)
-    ++ (ascii " " ++ (nameAt weekdayNames (weekdayOn n) ++ (elementBytes (panchangaOf edition (pairAt n)) ++ ascii "\n")))))
+dayLine edition n = namedDayBytes n ++ (elementBytes (panchangaOf edition (pairAt n)) ++ ascii "\n")

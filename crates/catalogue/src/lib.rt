@@ -1,5 +1,4 @@
 // A catalogue of days: its heading and its lines, put piece by piece into a lent buffer.
-use civil::Date;
 use days::Day;
 use days::refusal;
 use panchanga::Panchanga;
@@ -14,7 +13,7 @@ ghost use lib.Seq.{paste};
 ghost use Rattle.days.specs.Days.{lastDay};
 ghost use Rattle.panchanga.specs.TrueLongitudes.{isEdition};
 ghost use Rattle.text.specs.Lines.{lineCapacity, withBytes, Holds};
-ghost use Rattle.catalogue.specs.Catalogue.{editionText, catalogueHeading, dateBytes, elementBytes, dayLine};
+ghost use Rattle.catalogue.specs.Catalogue.{editionText, catalogueHeading, elementBytes, dayLine};
 ghost use Rattle.catalogue.specs.Pieces.{thePiece, noPiece, linesPiece, linesAfter, headingPiece, headingAfter, ofEdition, leftInEdition};
 
 // How many days were found and how many looked at, and the heading.
@@ -41,17 +40,6 @@ pub fn with_edition(line: Line, edition: u32) -> Line
     }
 }
 
-// `YEAR-MONTH-DAY`.
-pub fn put_date(line: Line, date: Date) -> Line
-    ensures { λ r. ⌜ r ≡ withBytes line (dateBytes date) ⌝ }
-{
-    line.number(date.year)
-        .byte(b'-')
-        .number(date.month)
-        .byte(b'-')
-        .number(date.day)
-}
-
 fn put_elements(line: Line, elements: Panchanga) -> Line
     ensures { λ r. ⌜ r ≡ withBytes line (elementBytes elements) ⌝ }
 {
@@ -70,13 +58,8 @@ fn day_line(edition: u32, day: u32) -> Line
     ensures { λ r. ⌜ Holds r (dayLine edition day) ⌝ }
 {
     let answer = Day::from_number(day);
-    let found = civil::date_of(day);
     let elements = panchanga::of_day(edition, answer.day);
-    let weekday = answer.day.weekday();
-    let names = words::WEEKDAYS;
-    let name = words::name_at(&names, weekday.number as usize);
-    let dated = put_date(Line::empty().number(day).byte(b' '), found.date);
-    let named = dated.byte(b' ').text(name);
+    let named = dated::put_named_day(Line::empty(), day);
     put_elements(named, elements).byte(b'\n')
 }
 

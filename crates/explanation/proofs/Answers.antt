@@ -14,7 +14,8 @@ use Rattle.reasons.proofs.Laws.{edition-told}
 use Rattle.text.specs.declared.Line.{Line}
 use Rattle.text.specs.Lines.{newline, withByte, withBytes, refusalLine}
 use Rattle.text.proofs.Lines.{with-byte-is, with-bytes-append}
-use Rattle.explanation.specs.Explanations.{dayBytes, verdictText, answerLine, explanationOf}
+use Rattle.dated.specs.Dated.{dayBytes}
+use Rattle.explanation.specs.Explanations.{verdictText, answerLine, explanationOf}
 
 module _ (q : Query) (n : ℕ) where
   -- 0 is no refusal

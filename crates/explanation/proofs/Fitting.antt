@@ -9,6 +9,7 @@ use lib.Dec.{ltb, leb, eqb}
 use lib.ListN.{length, length-append}
 use borrow.Author.Tests.{ltb-true, leb-true}
 use Rattle.catalogue.proofs.DayLines.{edition-short}
+use Rattle.dated.proofs.Laws.{day-short}
 use Rattle.days.specs.Days.{lastDay, pairAt, weekdayOn}
 use Rattle.days.specs.Weekdays.{inSet}
 use Rattle.longitudes.specs.Longitudes.{longitudeAt}
@@ -30,7 +31,7 @@ use Rattle.text.specs.Lines.{lineCapacity}
 use Rattle.text.proofs.Printing.{digits-length}
 use Rattle.explanation.specs.Explanations.{weekdaysText, numbersText, arcsText, causeText, verdictText, answerLine, explanationOf}
 use Rattle.explanation.proofs.Making.{arcs-verdict}
-use Rattle.explanation.proofs.Sizes.{names-short, body-name-short, angle-short, arc-short, day-short}
+use Rattle.explanation.proofs.Sizes.{names-short, body-name-short, angle-short, arc-short}
 
 -- what each of some conditions says where it does not hold is short
 Short : List Condition → Type 0

@@ -18,7 +18,8 @@ use Rattle.text.specs.Lines.{space, withByte, withBytes}
 use Rattle.text.proofs.Lines.{with-byte-is, with-bytes-append}
 use Rattle.words.specs.Names.{weekdayNames, bodyNames}
 use Rattle.words.specs.Words.{nameAt}
-use Rattle.explanation.specs.Explanations.{dayBytes, angleBytes, nameIn, namesIn, sevenDays, arcBytes, weekdaysText, numbersText, arcsText, causeText, verdictText}
+use Rattle.dated.specs.Dated.{dayBytes}
+use Rattle.explanation.specs.Explanations.{angleBytes, nameIn, namesIn, sevenDays, arcBytes, weekdaysText, numbersText, arcsText, causeText, verdictText}
 
 five : (l : Line) (a b c d e : List ℕ) → withBytes (withBytes (withBytes (withBytes (withBytes l a) b) c) d) e ≡ withBytes l (a ++ (b ++ (c ++ (d ++ e))))
 five l a b c d e = simp (with-bytes-append, append-assoc)

@@ -1,19 +1,13 @@
--- How long the parts of a line are: the names of a set's weekdays with that of a day that is not among them, an angle, a day with its date. By the digits of each number.
+-- How long the parts of a line are: the names of a set's weekdays with that of a day that is not among them, an angle. By the digits of each number.
 -- Assumes nothing.
 use Prim.Native.Nat.{ℕ, zero, suc, _+_, _-_, _/_, _%_, _≤_, _<_}
 use mathlib.Core.Path.{_≡_, refl}
-use mathlib.Core.Bool.{Bool, true, false, cond, _&&_, and-eq-true-iff, false≢true}
-use mathlib.Core.List.{List, [], _∷_, _++_}
+use mathlib.Core.Bool.{Bool, true, false, cond, _&&_, false≢true}
+use mathlib.Core.List.{[], _++_}
 use native.Mathlib.Omega.{arith}
 use lib.Dec.{ltb, leb, eqb}
-use lib.ListN.{length, length-append, getD}
-use borrow.Author.Tests.{ltb-true, leb-true, le-leb}
-use Rattle.catalogue.specs.Catalogue.{dateBytes}
-use Rattle.catalogue.proofs.DayLines.{date-small}
-use Rattle.civil.specs.declared.Date.{Date}
-use Rattle.civil.specs.Calendar.{lengths, leap, monthDays, sameDate, lastJulian, firstGregorian, next, dateOn}
-use Rattle.civil.specs.Answers.{dateOfDay}
-use Rattle.days.specs.Days.{lastDay}
+use lib.ListN.{length, length-append}
+use borrow.Author.Tests.{ltb-true, leb-true}
 use Rattle.days.specs.Weekdays.{inSet}
 use Rattle.query.specs.declared.Arc.{Arc}
 use Rattle.query.specs.Conditions.{arcInRange}
@@ -22,7 +16,7 @@ use Rattle.text.proofs.Printing.{digits-length}
 use Rattle.words.specs.Names.{weekdayNames, bodyNames}
 use Rattle.words.specs.Words.{nameAt}
 use Rattle.words.proofs.Names.{noLonger, name-length}
-use Rattle.explanation.specs.Explanations.{dayBytes, angleBytes, nameIn, namesIn, sevenDays, arcBytes}
+use Rattle.explanation.specs.Explanations.{angleBytes, nameIn, namesIn, sevenDays, arcBytes}
 
 module _ (set : ℕ) where
   size : (w : ℕ) → length (nameIn set w) ≤ suc (length (nameAt weekdayNames w))
@@ -78,57 +72,3 @@ arc-short a h = go (a .given) (ltb (a .start) 1296000) (leb 1 (a .width)) (leb (
     go true true false w e f k = absurd (false≢true k)
     go true false m w e f k = absurd (false≢true k)
     go false s m w e f k = omega arith
-
--- a date's month and day have two digits
-record TwoDigits (x : Date) : Type 0 where
-  month : x .month ≤ 12
-  day : x .day ≤ 32
-
-month-short : (y m : ℕ) → monthDays y m ≤ 32
-unfolding monthDays
-month-short y m = go (eqb m 2 && leap y) (entry lengths refl (m - 1))
-  where
-    noMore : List ℕ → Bool
-    noMore [] = true
-    noMore (n ∷ ns) = leb n 31 && noMore ns
-
-    entry : (ns : List ℕ) → noMore ns ≡ true → (k : ℕ) → getD ns k 0 ≤ 31
-    entry [] e k = omega arith
-    entry (n ∷ ns) e zero = leb-true n 31 (and-eq-true-iff (leb n 31) (noMore ns) .0 e .0)
-    entry (n ∷ ns) e (suc k) = entry ns (and-eq-true-iff (leb n 31) (noMore ns) .0 e .1) k
-
-    go : (b : Bool) → getD lengths (m - 1) 0 ≤ 31 → getD lengths (m - 1) 0 + cond b 1 0 ≤ 32
-    go true h = omega arith
-    go false h = omega arith
-
-next-two : (x : Date) → TwoDigits x → TwoDigits (next x)
-unfolding next
-next-two x s = go (sameDate x lastJulian) (ltb (x .day) (monthDays (x .year) (x .month))) (ltb (x .month) 12) refl refl
-  where
-    go :
-        (a b c : Bool) →
-        ltb (x .day) (monthDays (x .year) (x .month)) ≡ b →
-        ltb (x .month) 12 ≡ c →
-        TwoDigits
-        (cond a firstGregorian
-        (cond b (record { year = x .year; month = x .month; day = x .day + 1 })
-        (cond c (record { year = x .year; month = x .month + 1; day = 1 }) (record { year = x .year + 1; month = 1; day = 1 }))))
-    go true b c e f = record { month = omega arith; day = omega arith }
-    go false true c e f = record { month = s .month; day = omega (arith, ltb-true (x .day) (monthDays (x .year) (x .month)) e, month-short (x .year) (x .month)) }
-    go false false true e f = record { month = omega (arith, ltb-true (x .month) 12 f); day = omega arith }
-    go false false false e f = record { month = omega arith; day = omega arith }
-
-two-digits : (n : ℕ) → TwoDigits (dateOn n)
-unfolding dateOn
-two-digits zero = record { month = omega arith; day = omega arith }
-two-digits (suc n) = next-two (dateOn n) (two-digits n)
-
-pub day-short : (n : ℕ) → n ≤ lastDay → length (dayBytes n) ≤ 19
-unfolding dayBytes dateBytes dateOfDay
-day-short n h =
-    let two = two-digits n in
-    let number = digits-length 5 n (omega arith) in
-    let year = digits-length 5 (dateOn n .year) (omega (arith, date-small n .year)) in
-    let month = digits-length 1 (dateOn n .month) (omega (arith, two .month)) in
-    let day = digits-length 1 (dateOn n .day) (omega (arith, two .day)) in
-    rw (le-leb n lastDay h) (simp length-append (omega arith))

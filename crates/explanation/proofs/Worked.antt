@@ -5,9 +5,10 @@ use mathlib.Core.Path.{_≡_, refl}
 use mathlib.Core.Bool.{true}
 use mathlib.Core.List.{List, [], _∷_}
 use lib.ListN.{set, replicate}
-use Rattle.catalogue.specs.Catalogue.{editionText, dateBytes}
+use Rattle.catalogue.specs.Catalogue.{editionText}
 use Rattle.civil.specs.Calendar.{leap, monthDays, sameDate, next, dateOn}
 use Rattle.civil.specs.Answers.{dateOfDay}
+use Rattle.dated.specs.Dated.{dateBytes, dayBytes}
 use Rattle.days.specs.Weekdays.{inSet}
 use Rattle.integers.specs.Integers.{floorOver, reduced}
 use Rattle.longitudes.specs.Longitudes.{differenceOf, table, meanLongitude, longitudeAt}
@@ -26,7 +27,7 @@ use Rattle.text.specs.Ascii.{ascii}
 use Rattle.text.specs.Decimal.{digitsWithin, digitsOf}
 use Rattle.text.specs.Lines.{refusalLine}
 use Rattle.words.specs.Words.{nameAt}
-use Rattle.explanation.specs.Explanations.{dayBytes, angleBytes, nameIn, namesIn, arcBytes, weekdaysText, numbersText, arcsText, causeText, verdictText, answerLine, explanationOf}
+use Rattle.explanation.specs.Explanations.{angleBytes, nameIn, namesIn, arcBytes, weekdaysText, numbersText, arcsText, causeText, verdictText, answerLine, explanationOf}
 
 -- a query of a span in an edition
 abbrev asking : ℕ → ℕ → ℕ → Weekdays → Asked → Asked → Asked → List BodyArcs → Query

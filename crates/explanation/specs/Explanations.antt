@@ -5,8 +5,8 @@ use mathlib.Core.List.{List, [], _∷_, _++_}
 use Prim.Native.Nat.{ℕ, _-_, _/_, _%_}
 use lib.Dec.{eqb}
 use lib.ListN.{getD}
-use Rattle.catalogue.specs.Catalogue.{editionText, dateBytes}
-use Rattle.civil.specs.Answers.{dateOfDay}
+use Rattle.catalogue.specs.Catalogue.{editionText}
+use Rattle.dated.specs.Dated.{dayBytes}
 use Rattle.days.specs.Refusals.{accepted}
 use Rattle.days.specs.Weekdays.{inSet}
 use Rattle.query.specs.declared.Query.{Query}
@@ -17,10 +17,6 @@ use Rattle.text.specs.Decimal.{digitsOf}
 use Rattle.text.specs.Lines.{refusalLine}
 use Rattle.words.specs.Names.{weekdayNames, bodyNames}
 use Rattle.words.specs.Words.{nameAt}
-
--- a day: its number and its date
-unfoldable pub dayBytes : ℕ → List ℕ
-dayBytes n = digitsOf n ++ (ascii " " ++ dateBytes (dateOfDay n .date))
 
 -- an angle, in degrees, minutes and seconds: `D:M:S`
 unfoldable pub angleBytes : ℕ → List ℕ

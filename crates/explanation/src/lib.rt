@@ -1,4 +1,5 @@
 // The line that says why a day is not in a query's list, or that it fits.
+use dated::put_day;
 use query::Arc;
 use query::BodyArcs;
 use query::Query;
@@ -11,15 +12,7 @@ ghost use mathlib.Core.List.{_++_};
 ghost use Rattle.text.specs.Lines.{withBytes, Holds};
 ghost use Rattle.reasons.specs.Conditions.{arcNumbers};
 ghost use Rattle.reasons.specs.Reasons.{causeOf};
-ghost use Rattle.explanation.specs.Explanations.{dayBytes, angleBytes, nameIn, namesIn, sevenDays, arcBytes, weekdaysText, numbersText, arcsText, verdictText, explanationOf};
-
-// A day by its number and its date.
-fn put_day(line: Line, day: u32) -> Line
-    ensures { λ r. ⌜ r ≡ withBytes line (dayBytes day) ⌝ }
-{
-    let found = civil::date_of(day);
-    catalogue::put_date(line.number(day).byte(b' '), found.date)
-}
+ghost use Rattle.explanation.specs.Explanations.{angleBytes, nameIn, namesIn, sevenDays, arcBytes, weekdaysText, numbersText, arcsText, verdictText, explanationOf};
 
 // An angle as in a page, `D:M:S`.
 fn put_angle(line: Line, seconds: u32) -> Line

@@ -1,10 +1,10 @@
 -- `put_date` meets its contract: what is put one after another is put at once. Assumes nothing.
 use mathlib.Core.List.{append-assoc}
 use Rattle.text.proofs.Lines.{with-byte-is, with-bytes-append}
-use Rattle.catalogue.specs.Catalogue.{dateBytes}
+use Rattle.dated.specs.Dated.{dateBytes}
 use borrow.Author.Needs.{needs}
-use Rattle.catalogue.proofs.put_date.Statement.{statement}
-use Rattle.catalogue.proofs.put_date.Tie as tie
+use Rattle.dated.proofs.put_date.Statement.{statement}
+use Rattle.dated.proofs.put_date.Tie as tie
 
 number-requires : tie.Need-number-requires
 number-requires c κs = search needs

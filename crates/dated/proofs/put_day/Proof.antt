@@ -1,10 +1,10 @@
 -- `put_day` meets its contract: the number, a space and the date are put at once. Assumes nothing.
 use mathlib.Core.List.{append-assoc}
 use Rattle.text.proofs.Lines.{with-byte-is, with-bytes-append}
-use Rattle.explanation.specs.Explanations.{dayBytes}
+use Rattle.dated.specs.Dated.{dayBytes}
 use borrow.Author.Needs.{needs}
-use Rattle.explanation.proofs.put_day.Statement.{statement}
-use Rattle.explanation.proofs.put_day.Tie as tie
+use Rattle.dated.proofs.put_day.Statement.{statement}
+use Rattle.dated.proofs.put_day.Tie as tie
 
 date-of-requires : tie.Need-date-of-requires
 date-of-requires c κs = search needs

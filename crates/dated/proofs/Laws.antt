@@ -1,0 +1,125 @@
+-- What a line names a day by, for a number that is a day's; and that it is short: the numbers of a date have few digits, since a year grows by at most one from
+-- date to date, and a month and a day within it are bounded by the calendar. Assumes nothing.
+use mathlib.Core.Path.{_≡_, refl, ap, sym, _∙_}
+use mathlib.Core.Bool.{Bool, true, false, cond, _&&_, and-eq-true-iff}
+use mathlib.Core.List.{List, [], _∷_, _++_, append-assoc}
+use Prim.Native.Nat.{ℕ, zero, suc, _+_, _-_, _≤_}
+use native.Mathlib.Nat.{add-suc}
+use native.Mathlib.Decide.{decLe}
+use native.Mathlib.Omega.{arith}
+use lib.Dec.{ltb, leb, eqb}
+use lib.ListN.{length, length-append, getD}
+use borrow.Author.Tests.{ltb-true, leb-true, le-leb}
+use Rattle.civil.specs.declared.Date.{Date}
+use Rattle.civil.specs.Calendar.{lengths, leap, monthDays, sameDate, lastJulian, firstGregorian, next, dateOn}
+use Rattle.civil.specs.Answers.{dateOfDay}
+use Rattle.days.specs.declared.DayAnswer.{DayAnswer}
+use Rattle.days.specs.declared.NumberAnswer.{NumberAnswer}
+use Rattle.days.specs.Days.{lastDay, weekdayOn, weekdayAt, weekdayOf, pairAt, inRange, onDay, dayOf}
+use Rattle.days.proofs.Laws.{day-of, past-last, pair-in-range, given-number, count-pair}
+use Rattle.text.specs.Ascii.{ascii}
+use Rattle.text.specs.Decimal.{digitsOf}
+use Rattle.text.specs.declared.Line.{Line}
+use Rattle.text.specs.Lines.{space, withByte, withBytes}
+use Rattle.text.proofs.Lines.{with-byte-is, with-bytes-append}
+use Rattle.text.proofs.Printing.{digits-length, digits-some}
+use Rattle.words.specs.Names.{weekdayNames}
+use Rattle.words.specs.Words.{nameAt}
+use Rattle.words.proofs.Names.{noLonger, name-length}
+use Rattle.dated.specs.Dated.{dateBytes, dayBytes, namedDayBytes}
+
+-- ---- what is named
+pub day-bytes : (n : ℕ) → n ≤ lastDay → dayBytes n ≡ digitsOf n ++ (ascii " " ++ dateBytes (dateOn n))
+unfolding dayBytes dateOfDay
+day-bytes n h = rw (le-leb n lastDay h)
+
+pub named-day-bytes :
+    (n : ℕ) → n ≤ lastDay → namedDayBytes n ≡ digitsOf n ++ (ascii " " ++ (dateBytes (dateOn n) ++ (ascii " " ++ nameAt weekdayNames (weekdayOn n))))
+unfolding namedDayBytes
+named-day-bytes n h = rw (day-bytes n h, day-of n h, count-pair n) (simp append-assoc)
+
+answer-weekday : (n : ℕ) → weekdayOf (dayOf n .day) .number ≡ weekdayAt (dayOf n .day)
+answer-weekday n = go (decLe n lastDay)
+  where
+    go : Dec (n ≤ lastDay) → weekdayOf (dayOf n .day) .number ≡ weekdayAt (dayOf n .day)
+    go (yes h) = rw (day-of n h) (given-number weekdayAt (pairAt n) refl (pair-in-range n h))
+    go (no h) = rw (past-last n (omega arith)) (unfold onDay inRange in refl)
+
+pub named-made :
+    (l : Line) (n : ℕ) (answer : DayAnswer) (weekday : NumberAnswer) (name : List ℕ) →
+    answer ≡ dayOf n →
+    weekday ≡ weekdayOf (answer .day) →
+    name ≡ nameAt weekdayNames (weekday .number) →
+    withBytes (withByte (withBytes l (dayBytes n)) space) name ≡ withBytes l (namedDayBytes n)
+unfolding namedDayBytes
+named-made l n answer weekday name ea ew en = rw (en, ew, ea, answer-weekday n) (put-together (dayBytes n) (nameAt weekdayNames (weekdayAt (dayOf n .day))))
+  where
+    put-together : (day name : List ℕ) → withBytes (withByte (withBytes l day) space) name ≡ withBytes l (day ++ (space ∷ name))
+    put-together day name = simp (with-byte-is, with-bytes-append, append-assoc)
+
+-- ---- how long it is
+month-short : (y m : ℕ) → monthDays y m ≤ 32
+unfolding monthDays
+month-short y m = go (eqb m 2 && leap y) (entry lengths refl (m - 1))
+  where
+    noMore : List ℕ → Bool
+    noMore [] = true
+    noMore (n ∷ ns) = leb n 31 && noMore ns
+
+    entry : (ns : List ℕ) → noMore ns ≡ true → (k : ℕ) → getD ns k 0 ≤ 31
+    entry [] e k = omega arith
+    entry (n ∷ ns) e zero = leb-true n 31 (and-eq-true-iff (leb n 31) (noMore ns) .0 e .0)
+    entry (n ∷ ns) e (suc k) = entry ns (and-eq-true-iff (leb n 31) (noMore ns) .0 e .1) k
+
+    go : (b : Bool) → getD lengths (m - 1) 0 ≤ 31 → getD lengths (m - 1) 0 + cond b 1 0 ≤ 32
+    go true h = omega arith
+    go false h = omega arith
+
+record Small (most : ℕ) (x : Date) : Type 0 where
+  year : x .year ≤ most
+  month : x .month ≤ 12
+  day : x .day ≤ 32
+
+next-small : (most : ℕ) (x : Date) → 1582 ≤ most → Small most x → Small (suc most) (next x)
+unfolding next
+next-small most x h s = go (sameDate x lastJulian) (ltb (x .day) (monthDays (x .year) (x .month))) (ltb (x .month) 12) refl refl
+  where
+    go :
+        (a b c : Bool) →
+        ltb (x .day) (monthDays (x .year) (x .month)) ≡ b →
+        ltb (x .month) 12 ≡ c →
+        Small (suc most)
+        (cond a firstGregorian
+        (cond b (record { year = x .year; month = x .month; day = x .day + 1 })
+        (cond c (record { year = x .year; month = x .month + 1; day = 1 }) (record { year = x .year + 1; month = 1; day = 1 }))))
+    go true b c e f = omega arith
+    go false true c e f = omega (arith, s .year, s .month, ltb-true (x .day) (monthDays (x .year) (x .month)) e, month-short (x .year) (x .month))
+    go false false true e f = omega (arith, s .year, ltb-true (x .month) 12 f)
+    go false false false e f = omega (arith, s .year)
+
+date-small : (n : ℕ) → Small (1582 + n) (dateOn n)
+unfolding dateOn
+date-small zero = omega arith
+date-small (suc n) = rw (add-suc 1582 n) (next-small (1582 + n) (dateOn n) (omega arith) (date-small n))
+
+pub day-short : (n : ℕ) → n ≤ lastDay → length (dayBytes n) ≤ 19
+unfolding dateBytes
+day-short n h =
+    let s = date-small n in
+    let number = digits-length 5 n (omega arith) in
+    let year = digits-length 5 (dateOn n .year) (omega (arith, s .year)) in
+    let month = digits-length 1 (dateOn n .month) (omega (arith, s .month)) in
+    let day = digits-length 1 (dateOn n .day) (omega (arith, s .day)) in
+    rw (day-bytes n h) (simp length-append (omega arith))
+
+name-short : (w : ℕ) → length (nameAt weekdayNames w) ≤ 9
+unfolding noLonger
+name-short w = name-length 9 weekdayNames refl w
+
+pub named-day-short : (n : ℕ) → n ≤ lastDay → length (namedDayBytes n) ≤ 29
+unfolding namedDayBytes
+named-day-short n h = simp length-append (omega (arith, day-short n h, name-short (weekdayAt (dayOf n .day))))
+
+pub named-day-some : (n : ℕ) → 1 ≤ length (namedDayBytes n)
+unfolding namedDayBytes dayBytes
+named-day-some n = simp length-append (omega (arith, digits-some n))
