@@ -213,7 +213,8 @@ pub fn ranks_before(one: u32, other: u32) -> bool
     rank(one) < rank(other)
 }
 
-fn first_refusal(one: u32, other: u32) -> u32
+// Of two refusals the first in that order.
+pub fn first_refusal(one: u32, other: u32) -> u32
     ensures { λ r. ⌜ r ≡ firstRefusal one other ⌝ }
 {
     if ranks_before(other, one) { other } else { one }
