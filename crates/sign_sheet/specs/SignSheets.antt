@@ -1,0 +1,58 @@
+-- The sheet of signs: from the bytes of the input to the bytes that are printed, a heading and a line for each entry of the span, or a refusal.
+-- Assumes nothing.
+use mathlib.Core.Bool.{cond, _&&_}
+use mathlib.Core.List.{List, [], _∷_, _++_}
+use Prim.Native.Nat.{ℕ, zero, suc}
+use lib.Dec.{ltb, leb, eqb}
+use Rattle.dated.specs.Dated.{namedDayBytes}
+use Rattle.days.specs.declared.NumberAnswer.{NumberAnswer}
+use Rattle.days.specs.Days.{lastDay}
+use Rattle.days.specs.Refusals.{accepted}
+use Rattle.entries.specs.Entries.{entryAt}
+use Rattle.span_line.specs.declared.Span.{Span}
+use Rattle.span_line.specs.SpanLine.{spanInput}
+use Rattle.text.specs.Ascii.{ascii}
+use Rattle.text.specs.Lines.{spaced, refusalLine}
+use Rattle.zodiac.specs.declared.Listing.{Listing}
+use Rattle.zodiac.specs.Zodiac.{signOn, signEntries, listingOf, entriesAfter}
+
+unfoldable pub signHeading : List ℕ
+signHeading = ascii "day date weekday sign\n"
+
+-- the line of an entry on day n: its number, its date, its weekday's name, and the sign that is entered
+unfoldable pub signLine : ℕ → List ℕ
+signLine n = namedDayBytes n ++ (spaced (signOn n ∷ []) ++ ascii "\n")
+
+unfoldable pub signLines : List ℕ → List ℕ
+signLines [] = []
+signLines (d ∷ ds) = signLine d ++ signLines ds
+
+-- what is printed for a span that has been read
+unfoldable pub signSheet : Span → List ℕ
+signSheet s = cond (eqb (s .refusal) accepted) (signHeading ++ signLines (signEntries (s .first) (s .last))) (refusalLine (s .refusal))
+
+-- ALL THAT IS PRINTED for an input
+unfoldable pub printedFor : List ℕ → List ℕ
+printedFor input = signSheet (spanInput input)
+
+-- the entries of a span that has been read, for a list of so many entries, and the list after; the span's refusal leaves it as it was
+unfoldable pub listingOn : Span → ℕ → Listing
+listingOn s room = cond (eqb (s .refusal) accepted) (listingOf (s .first) (s .last) room) (record { refusal = s .refusal; length = 0; examined = 0 })
+
+unfoldable pub listOn : Span → List ℕ → List ℕ
+listOn s list = cond (eqb (s .refusal) accepted) (entriesAfter (s .first) (s .last) list) list
+
+abbrev pub listingFor : List ℕ → ℕ → Listing
+listingFor input room = listingOn (spanInput input) room
+
+abbrev pub listFor : List ℕ → List ℕ → List ℕ
+listFor input list = listOn (spanInput input) list
+
+-- the line of an entry that is read from a list; none for one that is no day
+unfoldable pub listedLine : NumberAnswer → List ℕ
+listedLine due = cond (eqb (due .refusal) accepted && leb (due .number) lastDay) (signLine (due .number)) []
+
+-- line k of what is printed, counted from 0; behind the last one nothing. The law `sheet-together`: all of them are `printedFor`
+unfoldable pub lineOf : Listing → List ℕ → ℕ → List ℕ
+lineOf m list zero = cond (eqb (m .refusal) accepted) signHeading (refusalLine (m .refusal))
+lineOf m list (suc k) = cond (eqb (m .refusal) accepted && ltb k (m .length)) (listedLine (entryAt list k)) []
