@@ -7,15 +7,14 @@ use Prim.Native.Nat.{ℕ, zero, suc, _+_, _≤_, _<_}
 use native.Mathlib.Omega.{arith}
 use lib.Dec.{eqb}
 use lib.ListN.{length, getD}
-use borrow.Author.Tests.{eqb-true, eqb-false, eq-eqb, ne-eqb}
-use Rattle.days.specs.Days.{lastDay, theNumber}
+use borrow.Author.Tests.{eqb-true, eqb-false}
+use Rattle.days.specs.Days.{theNumber}
 use Rattle.days.proofs.Laws.{Span as Ordered, accepts-span}
 use Rattle.entries.specs.Entries.{capacity, entryAt, withEntries}
 use Rattle.entries.proofs.Lists.{has-at}
 use Rattle.span_line.specs.declared.Span.{Span}
 use Rattle.span_line.specs.SpanLine.{spanInput}
 use Rattle.span_line.proofs.Laws.{accepted-span}
-use Rattle.text.specs.Lines.{refusalLine}
 use Rattle.zodiac.specs.declared.Listing.{Listing}
 use Rattle.zodiac.specs.Zodiac.{signEntries, listingOf, entriesAfter}
 use Rattle.zodiac.proofs.Answers.{all-written}

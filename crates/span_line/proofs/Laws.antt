@@ -41,26 +41,19 @@ module _ (a b : NumberAnswer) (r : ℕ) (e : r ≡ firstRefusal (a .refusal) (b 
     accepted-days none = rw (← e, eq-eqb r 0 z, ← es, eq-eqb s 0 none)
 
 -- as a page takes them
-condition-is :
-    (a b : NumberAnswer) →
-    (let read = conditionRead spanKeyword (numbersRead a b) in cond (eqb (read .refusal) 0) (theSpan (read .values .first) (read .values .second)) (noSpan (read .refusal)))
-    ≡ bothDays a b
+abbrev ofPage : NumberAnswer → NumberAnswer → Span
+ofPage a b =
+    let read = conditionRead spanKeyword (numbersRead a b) in
+    cond (eqb (read .refusal) 0) (theSpan (read .values .first) (read .values .second)) (noSpan (read .refusal))
+
+page-days : (a b : NumberAnswer) → ofPage a b ≡ bothDays a b
 unfolding conditionRead numbersRead bothDays withCondition refusalOf spanRefusal isEdition conditionsInRange askedInRange weekdaysInRange arcInRange bodyArcsInRange arcsInRange
-condition-is a b = go (firstRefusal (a .refusal) (b .refusal)) refl
+page-days a b = go (firstRefusal (a .refusal) (b .refusal)) refl
   where
-    go :
-        (r : ℕ) →
-        firstRefusal (a .refusal) (b .refusal) ≡ r →
-        (let read = conditionRead spanKeyword (numbersRead a b) in cond (eqb (read .refusal) 0) (theSpan (read .values .first) (read .values .second)) (noSpan (read .refusal)))
-        ≡ bothDays a b
+    go : (r : ℕ) → firstRefusal (a .refusal) (b .refusal) ≡ r → ofPage a b ≡ bothDays a b
     go r e = by (eqb r 0) (eqb r 3) refl refl
       where
-        by :
-            (t u : Bool) →
-            eqb r 0 ≡ t →
-            eqb r 3 ≡ u →
-            (let read = conditionRead spanKeyword (numbersRead a b) in cond (eqb (read .refusal) 0) (theSpan (read .values .first) (read .values .second)) (noSpan (read .refusal)))
-            ≡ bothDays a b
+        by : (t u : Bool) → eqb r 0 ≡ t → eqb r 3 ≡ u → ofPage a b ≡ bothDays a b
         by true u h k = rw (e, h)
         by false true h k = rw (e, h, k) (ap noSpan (sym (eqb-true r 3 k)))
         by false false h k = rw (e, h, k, h, h)
@@ -86,7 +79,7 @@ two-are :
     eqb (length (firstWord (afterWord (afterWord (upTo hash l))))) 0 ≡ true →
     spanLine l ≡ bothDays (dayRead (firstWord (upTo hash l))) (dayRead (firstWord (afterWord (upTo hash l))))
 unfolding spanLine
-two-are l h = rw (words-are l, h, values-are (upTo hash l)) (condition-is _ _)
+two-are l h = rw (words-are l, h, values-are (upTo hash l)) (page-days _ _)
 
 module _ (line body others more : List ℕ) (eb : body ≡ upTo hash line) (eo : others ≡ afterWord body) (em : more ≡ firstWord (afterWord others)) where
   more-is : length more ≡ length (firstWord (afterWord (afterWord (upTo hash line))))
