@@ -19,7 +19,7 @@ use Rattle.zodiac.specs.declared.Listing.{Listing}
 use Rattle.zodiac.specs.Zodiac.{signEntries, listingOf, entriesAfter}
 use Rattle.zodiac.proofs.Answers.{all-written}
 use Rattle.zodiac.proofs.Laws.{entered-only, entries-few, entered-read}
-use Rattle.sign_sheet.specs.SignSheets.{signHeading, signLine, signLines, signSheet, printedFor, listingOn, listOn, listingFor, listFor, listedLine, lineOf}
+use Rattle.sign_sheet.specs.SignSheets.{signHeading, signLine, signLines, signSheet, printedFor, mostEntries, listingOn, listOn, listingFor, listFor, listedLine, lineOf}
 use Rattle.sign_sheet.proofs.Lines.{span-refused, list-left, span-listed, list-filled, first-refused, first-is-heading, line-of-entry, day-due}
 
 -- n lines from line k on
@@ -38,7 +38,7 @@ lines-of m list (d ∷ ds) k each =
     let here : k + 0 ≡ k = omega arith in
     ap₂ (λ (a b : List ℕ). a ++ b) (rw here at (each 0 (omega arith))) (lines-of m list ds (suc k) (λ i h. let next : k + suc i ≡ suc k + i = omega arith in rw next at (each (suc i) (omega arith))))
 
-module _ (first last : ℕ) (o : Ordered first last) (list : List ℕ) (room : 13387 ≤ capacity list) where
+module _ (first last : ℕ) (o : Ordered first last) (list : List ℕ) (room : mostEntries ≤ capacity list) where
   abbrev days : List ℕ
   days = signEntries first last
 
@@ -69,7 +69,7 @@ span-together :
     (s : Span) →
     (s .refusal ≡ 0 → Ordered (s .first) (s .last)) →
     (list : List ℕ) →
-    13387 ≤ capacity list →
+    mostEntries ≤ capacity list →
     linesFrom (listingOn s (capacity list)) (listOn s list) 0 (suc (listingOn s (capacity list) .length)) ≡ signSheet s
 unfolding signSheet
 span-together s ordered list room = go (eqb (s .refusal) 0) refl
@@ -86,7 +86,7 @@ span-together s ordered list room = go (eqb (s .refusal) 0) refl
 -- with a list for as many entries as any span has, the lines are all that is printed for an input
 pub sheet-together :
     (input list : List ℕ) →
-    13387 ≤ capacity list →
+    mostEntries ≤ capacity list →
     linesFrom (listingFor input (capacity list)) (listFor input list) 0 (suc (listingFor input (capacity list) .length)) ≡ printedFor input
 unfolding printedFor
 sheet-together input list room = span-together (spanInput input) (accepted-span input) list room

@@ -52,7 +52,11 @@ listFor input list = listOn (spanInput input) list
 unfoldable pub listedLine : NumberAnswer → List ℕ
 listedLine due = cond (eqb (due .refusal) accepted && leb (due .number) lastDay) (signLine (due .number)) []
 
--- line k of what is printed, counted from 0; behind the last one nothing. The law `sheet-together`: all of them are `printedFor`
+-- the most entries that a span has: one in thirty of all days, and one more
+abbrev pub mostEntries : ℕ
+mostEntries = 13387
+
+-- line k of what is printed, counted from 0; behind the last one nothing. The law `sheet-together`: with a list of `mostEntries` all of them are `printedFor`
 unfoldable pub lineOf : Listing → List ℕ → ℕ → List ℕ
 lineOf m list zero = cond (eqb (m .refusal) accepted) signHeading (refusalLine (m .refusal))
 lineOf m list (suc k) = cond (eqb (m .refusal) accepted && ltb k (m .length)) (listedLine (entryAt list k)) []
