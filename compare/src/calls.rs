@@ -98,6 +98,10 @@ unsafe extern "C" {
         sun_width: u32,
         weekday: u32,
     ) -> u32;
+
+    /// The list is lent as the search's.
+    pub fn graha_sign_entries(first: u32, last: u32, list: *mut u8, list_len: usize) -> u32;
+    pub safe fn graha_sign_entries_length(first: u32, last: u32) -> u32;
 }
 
 #[link(name = "bridge", kind = "static")]

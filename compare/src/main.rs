@@ -52,6 +52,9 @@ fn main() {
         runs::parted::run(checks, &almanac)
     });
     checks.part("reasons", |checks| runs::reasons::run(checks, &almanac));
+    checks.part("entries into signs", |checks| {
+        runs::signs::run(checks, &almanac)
+    });
     checks.part("lines into a buffer", |checks| {
         runs::lines::run(checks, &almanac)
     });

@@ -32,20 +32,19 @@ pub fn heading(edition: Edition, length: u32, looked: u32) -> String {
     format!("found {length} looked {looked}{named}\n{HEADING}\n")
 }
 
+/// A day of the table by its number and its date.
+pub fn named(almanac: &Almanac, number: u32) -> String {
+    let Date { year, month, day } = almanac.days()[number as usize].date;
+    format!("{number} {year}-{month}-{day}")
+}
+
 /// The line of a day; 2 for a number that is no day.
 pub fn line(almanac: &Almanac, edition: Edition, number: u32) -> Answer<String> {
     let day = almanac.day(number)?;
-    let Date {
-        year,
-        month,
-        day: of_month,
-    } = day.date;
+    let named = named(almanac, number);
     let weekday = WEEKDAYS[day.weekday as usize];
     let limbs = day.elements(edition).limbs().map(|limb| limb.to_string());
-    Ok(format!(
-        "{number} {year}-{month}-{of_month} {weekday} {}\n",
-        limbs.join(" ")
-    ))
+    Ok(format!("{named} {weekday} {}\n", limbs.join(" ")))
 }
 
 /// All that is printed for a search.

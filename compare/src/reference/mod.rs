@@ -1,9 +1,10 @@
-//! The rules of paper 01, and of paper 02's L1, L2, L3, L4, L5, L8 and L9, each written a second time
-//! and by another method than the proved crates: exact fractions with one floor, dates by walking the
-//! calendar day by day, a search that tests every day of its span, and reasons from a list of all
-//! conditions. Each function cites the paper's heading that it follows; the page of `find` and what it
-//! prints, which the papers leave open, are described in `page` and `catalogue`, what `engraving`
-//! prints in `plate`, what `month` prints in `month`, and what `why` reads and prints in `why`.
+//! The rules of paper 01, and of paper 02's L1, L2, L3, L4, L5, L8, L9 and L10, each written a second
+//! time and by another method than the proved crates: exact fractions with one floor, dates by walking
+//! the calendar day by day, a search and entries into signs that test every day of their span, and
+//! reasons from a list of all conditions. Each function cites the paper's heading that it follows; the
+//! page of `find` and what it prints, which the papers leave open, are described in `page` and
+//! `catalogue`, what `engraving` prints in `plate`, what `month` prints in `month`, what `why` reads and
+//! prints in `why`, and what `signs` reads and prints in `span` and `signs`.
 
 pub mod almanac;
 pub mod catalogue;
@@ -11,6 +12,7 @@ pub mod civil;
 pub mod days;
 pub mod edition;
 pub mod exact;
+pub mod list;
 pub mod longitudes;
 pub mod month;
 pub mod motions;
@@ -24,4 +26,6 @@ pub mod refusal;
 pub mod saka;
 pub mod search;
 pub mod sheet;
+pub mod signs;
+pub mod span;
 pub mod why;

@@ -64,6 +64,10 @@ impl Fault {
         }
     }
 
+    pub fn refusal(&self) -> u32 {
+        self.refusal
+    }
+
     /// Of a line of the right form: its refusal says the reason.
     pub fn of_values(refusal: u32) -> Fault {
         Fault::new(refusal, reason(refusal))

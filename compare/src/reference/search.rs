@@ -8,7 +8,7 @@ use super::days::LAST_DAY;
 use super::edition::Edition;
 use super::exact::{reduced, Fraction};
 use super::longitudes::SUN;
-use super::refusal::{Answer, BAD_CONDITION, LAST_BEFORE_FIRST, LIST_TOO_SHORT, OUT_OF_RANGE};
+use super::refusal::{Answer, BAD_CONDITION, LAST_BEFORE_FIRST, OUT_OF_RANGE};
 
 /// "An arc: a start, and a width from 1 to 1,296,000."
 #[derive(Clone, Copy, Debug)]
@@ -308,33 +308,9 @@ impl Query {
 }
 
 impl Found {
-    /// "The lent room suffices if the list has at least as many places as the span has fitting
-    /// days"; otherwise 7.
-    pub fn result_for(&self, entries: usize) -> u32 {
-        if self.matching.len() <= entries {
-            0
-        } else {
-            LIST_TOO_SHORT
-        }
-    }
-
     /// The walk comes to every fitting day, or the paper's jump were wrong.
     pub fn walk_misses_none(&self) -> bool {
         let visited = |day: &u32| self.visited.binary_search(day).is_ok();
         self.matching.iter().all(visited)
-    }
-
-    /// A list of bytes after the search: "four a day, low byte first, and a tail under four bytes
-    /// is no place and stays as it was" ("What the table reckons"). "Lent memory is untouched by
-    /// each refusal; on acceptance the places behind the list stay as they were" ("Refusals by
-    /// number").
-    pub fn list_after(&self, before: &[u8]) -> Vec<u8> {
-        let mut after = before.to_vec();
-        if self.result_for(before.len() / 4) == 0 {
-            for (entry, day) in after.chunks_exact_mut(4).zip(&self.matching) {
-                entry.copy_from_slice(&day.to_le_bytes());
-            }
-        }
-        after
     }
 }

@@ -4,8 +4,7 @@
 //! weighed together, and lines are counted from it.
 
 use super::almanac::Almanac;
-use super::catalogue::WEEKDAYS;
-use super::civil::Date;
+use super::catalogue::{named, WEEKDAYS};
 use super::edition::Edition;
 use super::page::{
     end, gravest, letters, read, without_newline, words, Fault, Printed, BODIES, OTHER_VALUES,
@@ -13,12 +12,6 @@ use super::page::{
 };
 use super::reasons::{why, Asked, Reason, Why};
 use super::refusal::BAD_INPUT;
-
-/// A day by its number and its date.
-fn named(almanac: &Almanac, number: u32) -> String {
-    let Date { year, month, day } = almanac.days()[number as usize].date;
-    format!("{number} {year}-{month}-{day}")
-}
 
 /// Degrees, minutes and seconds.
 fn in_degrees(seconds: u32) -> String {

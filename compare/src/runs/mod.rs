@@ -27,7 +27,9 @@ pub mod reasons;
 pub mod records;
 pub mod saka;
 pub mod searches;
+pub mod signs;
 pub mod smudged;
+pub mod span_input;
 pub mod why;
 pub mod worked;
 

@@ -9,10 +9,9 @@ use crate::reference::edition::Edition;
 use crate::reference::longitudes::SUN;
 use crate::reference::search::{set_of, Arc, Arcs, Query};
 
-use super::{EDITIONS, NO_EDITIONS};
+pub use crate::reference::span::Span;
 
-/// First and last day.
-pub type Span = (u32, u32);
+use super::{EDITIONS, NO_EDITIONS};
 
 /// Spans that are refused: with 2 for either end or both, some of them reversed too, and with 5.
 pub const REFUSED_SPANS: [Span; 9] = [

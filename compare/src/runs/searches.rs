@@ -4,6 +4,7 @@
 use std::collections::BTreeSet;
 
 use crate::checks::Checks;
+use crate::reference::list::{list_after, result_for};
 use crate::reference::refusal::Answer;
 use crate::reference::search::Found;
 
@@ -28,28 +29,30 @@ pub fn with_tails(entries: impl IntoIterator<Item = usize>) -> BTreeSet<usize> {
 
 /// The lengths that tell one answer from another: no entry, one entry short of the need, exact, one
 /// over, each with tails, and `most` entries.
-fn list_lengths(matching: usize, most: usize) -> BTreeSet<usize> {
+pub fn list_lengths(matching: usize, most: usize) -> BTreeSet<usize> {
     let mut lengths = with_tails([0, matching.saturating_sub(1), matching, matching + 1]);
     lengths.insert(4 * most);
     lengths
 }
 
-/// A search with a list of one length.
-fn compare_list<C: SearchCalls>(
+/// A call that lists days, with a list of one length; `expected` are the days that it has to list.
+pub fn compare_list(
     checks: &mut Checks,
-    calls: &C,
-    expected: &Answer<Found>,
+    name: &str,
+    input: impl Fn() -> String,
+    call: impl FnOnce(&mut [u8]) -> u32,
+    expected: Answer<&[u32]>,
     length: usize,
 ) {
     let mut list = Lent::new(length);
-    let (result, list_after) = match expected {
-        Ok(found) => (found.result_for(length / 4), found.list_after(list.bytes())),
-        Err(refusal) => (*refusal, list.bytes().to_vec()),
+    let (result, after) = match expected {
+        Ok(days) => (result_for(days, length / 4), list_after(days, list.bytes())),
+        Err(refusal) => (refusal, list.bytes().to_vec()),
     };
-    let came = calls.search(list.bytes_mut());
-    let input = || format!("{}, a list of {length} bytes", calls.input());
-    checks.same(C::NAMES[0], input, result, came);
-    list.compare(checks, C::NAMES[0], input, &list_after);
+    let came = call(list.bytes_mut());
+    let input = || format!("{}, a list of {length} bytes", input());
+    checks.same(name, input, result, came);
+    list.compare(checks, name, input, &after);
 }
 
 /// All three calls. `most` is the number of entries of the longest list.
@@ -90,7 +93,10 @@ pub fn compare_lists<C: SearchCalls>(
             checks.at_most(C::NAMES[2], input, limit, looked_came);
         }
     }
+    let days = expected.as_ref().map(|found| &found.matching[..]);
+    let days = days.map_err(|refusal| *refusal);
     for list_length in lengths {
-        compare_list(checks, calls, expected, list_length);
+        let search = |list: &mut [u8]| calls.search(list);
+        compare_list(checks, C::NAMES[0], input, search, days, list_length);
     }
 }

@@ -9,6 +9,7 @@ use crate::reference::almanac::Almanac;
 use crate::reference::civil::Date;
 use crate::reference::days::LAST_DAY;
 use crate::reference::edition::Edition;
+use crate::reference::list::result_for;
 use crate::reference::longitudes::{
     JUPITER, MARS, MERCURY_ANOMALY, MOON, MOON_APOGEE, SUN, VENUS_ANOMALY,
 };
@@ -309,8 +310,9 @@ fn search(checks: &mut Checks, almanac: &Almanac) {
         vec![0, 11, 12, 376, 377],
         found.visited.clone(),
     );
-    checks.same("room for two", input, 0, found.result_for(2));
-    checks.same("room for one", input, 7, found.result_for(1));
+    for (room, entries, result) in [("room for two", 2, 0), ("room for one", 1, 7)] {
+        checks.same(room, input, result, result_for(&found.matching, entries));
+    }
     for (day, fits, next) in [
         (0, false, 11),
         (11, true, 12),

@@ -1,0 +1,236 @@
+//! The programs that read a line with two days, run on lines good and bad; what they print is compared
+//! byte for byte.
+
+use crate::checks::Checks;
+use crate::random::Random;
+use crate::reference::almanac::Almanac;
+use crate::reference::page::TOO_LONG;
+
+use super::find::many;
+use super::page_text::{
+    damage, day, put_line, DAYS_OUTSIDE, NO_DATES, OTHER_FORMS, REVERSED, SPANS,
+};
+use super::programs::{self, shown};
+use super::queries::{random_span, Span};
+
+/// A program, and what it has to print for an input.
+pub struct Program<'a> {
+    pub path: &'static str,
+    pub printed: &'a dyn Fn(&[u8]) -> String,
+}
+
+/// Lines without their newline that are accepted: blanks and a comment may stand about the two days.
+const ACCEPTED: [&str; 12] = [
+    "0 401599",
+    "1520-3-19 2619-10-13",
+    "0 729",
+    "4010 4020",
+    "1582-9-1 1582-11-30",
+    " 5 50",
+    "5   50   ",
+    "\t\r 5\t\r50 \t\r",
+    "5 50#",
+    "5 50 # two days",
+    "5 50 ## 60 70",
+    "1607-4-15 1612-12-31\r",
+];
+
+/// Lines that are refused with 3; a few would be sound with a word more or less.
+const REFUSED: [&str; 26] = [
+    "",
+    " ",
+    "\r",
+    "#",
+    "# 5 50",
+    "5 # 50",
+    "5#50",
+    "5 5#0",
+    "5",
+    "1520-3-19",
+    "5 50 60",
+    "5 50 x",
+    "x 5 50",
+    "5 50 60 70 80 90",
+    "401600",
+    "401600 401600 401600",
+    "9 5 0",
+    "span 5 50",
+    "span 5",
+    "span",
+    "monday sunday",
+    "5,50",
+    "5-50",
+    "5 .. 50",
+    "5\u{b}50",
+    "5\u{a0}50",
+];
+
+/// Inputs that are not one line with a newline at its end.
+const NOT_A_LINE: [&[u8]; 21] = [
+    b"",
+    b"5 50",
+    b"5 50 ",
+    b"5 50\r",
+    b"5 50#",
+    b"x",
+    b"401600 401600",
+    b"9 5",
+    b"5 50\n\n",
+    b"5 50\n ",
+    b"5 50\n#",
+    b"5 50\n# two days\n",
+    b"5 50\n5 50\n",
+    b"5 50\nx",
+    b"5 50\n\0",
+    b"\n5 50\n",
+    b"# two days\n5 50\n",
+    b"5\n50\n",
+    b"401600 5\n\n",
+    b"9 5\n\n",
+    b"1582-10-10 5\n5 50\n",
+];
+
+impl Program<'_> {
+    /// On acceptance nothing may stand on standard error.
+    fn compare_pieces(&self, checks: &mut Checks, pieces: &[&[u8]]) {
+        let input = pieces.concat();
+        let expected = (self.printed)(&input);
+        let input = || format!("{}, in {} pieces", shown(&input), pieces.len());
+        let written = programs::run(checks, self.path, input, pieces);
+        checks.same_lines(self.path, input, &expected, &written.output);
+        if !expected.starts_with("refused ") {
+            checks.same("its standard error", input, String::new(), written.error);
+        }
+    }
+
+    fn compare(&self, checks: &mut Checks, input: &[u8]) {
+        self.compare_pieces(checks, &[input]);
+    }
+
+    /// Lines good and bad, those of a page's span without the word among them; and inputs that are no
+    /// line.
+    fn lines(&self, checks: &mut Checks) {
+        let of_pages = [
+            &SPANS[..],
+            &OTHER_FORMS,
+            &NO_DATES,
+            &DAYS_OUTSIDE,
+            &REVERSED,
+        ]
+        .concat();
+        let spans = of_pages
+            .iter()
+            .filter_map(|line| line.strip_prefix("span "));
+        for line in spans.chain(ACCEPTED).chain(REFUSED) {
+            self.compare(checks, format!("{line}\n").as_bytes());
+        }
+        for input in NOT_A_LINE {
+            self.compare(checks, input);
+        }
+    }
+
+    /// Every byte before a day, between the two, in one of them, and behind the newline.
+    fn bytes(&self, checks: &mut Checks) {
+        for byte in 0..=255 {
+            for (before, after) in [("", "5 50\n"), ("5", "50\n"), ("5 5", "\n"), ("5 50\n", "")] {
+                let input = [before.as_bytes(), &[byte], after.as_bytes()].concat();
+                self.compare(checks, &input);
+            }
+        }
+    }
+
+    /// Each two of some days at the edges, by number and by date, good and bad.
+    fn pairs(&self, checks: &mut Checks) {
+        let days = [
+            "0",
+            "22844",
+            "1582-10-15",
+            "401599",
+            "2619-10-13",
+            "401600",
+            "1520-3-18",
+            "1582-10-14",
+            "1700-2-29",
+            "x",
+        ];
+        for first in days {
+            for last in days {
+                self.compare(checks, format!("{first} {last}\n").as_bytes());
+            }
+        }
+    }
+
+    /// Random spans in every form that a day has, a third of them with one word or both of a refused
+    /// line, and a third with damaged bytes.
+    fn random_lines(&self, checks: &mut Checks, almanac: &Almanac) {
+        let mut random = Random::from_seed();
+        let refused = [&NO_DATES[..], &DAYS_OUTSIDE, &REVERSED].concat();
+        for round in 0..600 {
+            let (first, last) = random_span(&mut random, 3000);
+            let mut words = [first, last].map(|number| day(&mut random, almanac, number));
+            if round % 3 == 1 {
+                let line = random.one_of(&refused).split(' ').skip(1);
+                let which = random.below(3);
+                for (at, word) in (0..).zip(line).filter(|(at, _)| *at != which) {
+                    words[at as usize] = word.to_string();
+                }
+            }
+            let mut input = Vec::new();
+            put_line(&mut random, &mut input, &Vec::from(words));
+            if round % 3 == 2 {
+                for _ in 0..random.between(1, 3) {
+                    damage(&mut random, &mut input);
+                }
+            }
+            self.compare(checks, &input);
+        }
+    }
+
+    /// Long inputs, whose first bytes may be a good line, and such as come in pieces.
+    fn long(&self, checks: &mut Checks) {
+        let inputs: [&[&[u8]]; 8] = [
+            &[b"5 50 #", &many(b"x "), b"\n"],
+            &[&many(b" \t\r"), b"5 50\n"],
+            &[b"5", &many(b" "), b"50\n"],
+            &[b"5 50", &many(b"\r"), b"\n"],
+            &[&many(b"0"), b"5 50\n"],
+            &[&many(b"5 "), b"\n"],
+            &[&many(b"5 50\n")],
+            &[b"5 50\n", &many(b"\0")],
+        ];
+        for pieces in inputs {
+            self.compare(checks, &pieces.concat());
+        }
+        for length in [TOO_LONG - 1, TOO_LONG, TOO_LONG + 1, 8 * TOO_LONG] {
+            for first in ["5 50 ", "9 5 #", "x", "5 50\n"] {
+                let mut input = first.as_bytes().to_vec();
+                input.resize(length - 1, b' ');
+                input.push(b'\n');
+                self.compare(checks, &input);
+            }
+        }
+        let in_pieces: [&[&[u8]]; 6] = [
+            &[b"5 5", b"0\n"],
+            &[b"5", b" ", b"50", b"\n"],
+            &[b"5 50", b"\n"],
+            &[b"5 50\n", b"\n"],
+            &[b"5 50\n", b"x"],
+            &[b"1582-10-", b"10 5\n"],
+        ];
+        for pieces in in_pieces {
+            self.compare_pieces(checks, pieces);
+        }
+    }
+
+    /// All these, and the spans of a program's own.
+    pub fn compare_inputs(&self, checks: &mut Checks, almanac: &Almanac, spans: &[Span]) {
+        self.lines(checks);
+        self.bytes(checks);
+        self.pairs(checks);
+        self.random_lines(checks, almanac);
+        self.long(checks);
+        for (first, last) in spans {
+            self.compare(checks, format!("{first} {last}\n").as_bytes());
+        }
+    }
+}
