@@ -3,6 +3,7 @@
 use mathlib.Core.List.{List, [], _∷_}
 use Prim.Native.Nat.{ℕ, zero, suc, _+_, _-_, _*_, _/_, _%_}
 use Rattle.days.specs.Days.{cycleDays}
+use Rattle.integers.specs.RoundedUp.{roundedUp}
 use Rattle.longitudes.specs.Longitudes.{circle}
 use Rattle.zodiac.specs.Zodiac.{signSeconds}
 
@@ -20,7 +21,7 @@ secondsTo k = signSeconds * k - 1258860
 
 -- the first day on which k signs are passed, from 12 on: whole cycles, and in the cycle the days for what is left, rounded up
 unfoldable pub dayPassing : ℕ → ℕ
-dayPassing k = cycleDays * (secondsTo k / cycleSeconds) + (35 * (secondsTo k % cycleSeconds) + (124186 - 1)) / 124186
+dayPassing k = cycleDays * (secondsTo k / cycleSeconds) + roundedUp (35 * (secondsTo k % cycleSeconds)) 124186
 
 -- these days for m signs from sign k on
 unfoldable pub daysPassing : ℕ → ℕ → List ℕ
