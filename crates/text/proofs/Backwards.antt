@@ -13,11 +13,11 @@ use Rattle.text.proofs.Printing.{digits-one, digits-more}
 -- before the digit at from is written: rest is what is left of n
 pub record Written (n : ℕ) (bytes : List ℕ) (from rest : ℕ) : Type 0 where
   pub split : digitsOf n ≡ digitsOf rest ++ drop (suc from) bytes
-  pub size : length bytes ≡ 10
-  pub room : from ≤ 9
+  pub size : length bytes ≡ 20
+  pub room : from ≤ 19
   pub small : rest < 10 ^ suc from
 
-pub written-start : (n : ℕ) → n < 10000000000 → Written n (replicate 10 0) 9 n
+pub written-start : (n : ℕ) → n < 100000000000000000000 → Written n (replicate 20 0) 19 n
 written-start n h =
     record { split = sym (append-nil (digitsOf n)); size = omega arith; room = omega arith; small = h }
 

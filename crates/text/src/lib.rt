@@ -18,9 +18,9 @@ pub struct Line {
     pub len: usize,
 }
 
-// A number's digits: the bytes from an index to the end. No u32 has more than ten.
+// A number's digits: the bytes from an index to the end. No u64 has more than twenty.
 struct Digits {
-    bytes: [u8; 10],
+    bytes: [u8; 20],
     from: usize,
 }
 
@@ -82,11 +82,11 @@ pub fn read_day(input: &[u8]) -> NumberAnswer
 }
 
 // The digits are found from the last, so they are written backwards.
-fn decimal(n: u32) -> Digits
-    ensures { λ r. ⌜ (length (r .bytes) ≡ 10) × (r .from ≤ 9) × (drop (r .from) (r .bytes) ≡ digitsOf n) ⌝ }
+fn decimal(n: u64) -> Digits
+    ensures { λ r. ⌜ (length (r .bytes) ≡ 20) × (r .from ≤ 19) × (drop (r .from) (r .bytes) ≡ digitsOf n) ⌝ }
 {
-    let mut bytes = [0u8; 10];
-    let mut from: usize = 9;
+    let mut bytes = [0u8; 20];
+    let mut from: usize = 19;
     let mut rest = n;
     while 10 <= rest {
         bytes[from] = b'0' + (rest % 10) as u8;
@@ -136,6 +136,12 @@ impl Line {
 
     // The number in decimal, with no zeros in front.
     pub fn number(self, n: u32) -> Line
+        ensures { λ r. ⌜ r ≡ withBytes self (digitsOf n) ⌝ }
+    {
+        self.wide_number(n as u64)
+    }
+
+    pub fn wide_number(self, n: u64) -> Line
         ensures { λ r. ⌜ r ≡ withBytes self (digitsOf n) ⌝ }
     {
         let digits = decimal(n);

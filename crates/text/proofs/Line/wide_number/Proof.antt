@@ -1,11 +1,11 @@
--- `text::Line::number` meets its contract: the part that is lent is all the digits written. Assumes nothing.
+-- `text::Line::wide_number` meets its contract: the part that is lent is all the digits written. Assumes nothing.
 use mathlib.Core.Path.{ap, _∙_}
 use native.Mathlib.Omega.{arith}
 use borrow.Author.Needs.{needs}
 use Rattle.text.specs.Lines.{withBytes}
 use Rattle.text.proofs.Lending.{lent-rest}
-use Rattle.text.proofs.Line.number.Statement.{statement}
-use Rattle.text.proofs.Line.number.Tie as tie
+use Rattle.text.proofs.Line.wide_number.Statement.{statement}
+use Rattle.text.proofs.Line.wide_number.Tie as tie
 
 decimal-requires : tie.Need-decimal-requires
 decimal-requires c κs = search needs
@@ -28,7 +28,7 @@ returns c =
     c .text .ensures
     ∙ ap (withBytes _) ((rw (written .ensures .0) at (lent-rest (written .result .bytes) (written .result .from))) ∙ written .ensures .2)
 
-pub number-spec : {M : Type 1} → statement M
-number-spec =
+pub wide-number-spec : {M : Type 1} → statement M
+wide-number-spec =
     tie.close
     (tie.spec decimal-requires sub-text part-text-start part-text-end text-requires returns)
