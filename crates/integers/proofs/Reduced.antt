@@ -3,10 +3,10 @@
 use mathlib.Core.Path.{_≡_, sym, ap, _∙_}
 use Prim.Native.Nat.{ℕ, suc, _+_, _*_, _-_, _/_, _%_, _<_}
 use native.Mathlib.Omega.{arith}
-use native.Mathlib.Nat.{add-mul-div-right, add-mul-mod-self-right, div-add-mod', mod-lt, mod-eq-of-lt, mul-le-mul-right, lt-of-mul-lt-mul-right}
-use lib.IntN.{ℤ, pos, negsuc}
+use native.Mathlib.Nat.{add-mul-div-right, add-mul-mod-self-right, div-add-mod', mod-add-div', mod-lt, mod-eq-of-lt, mul-le-mul-right, lt-of-mul-lt-mul-right}
+use lib.IntN.{ℤ, pos, negsuc, _+ℤ_}
 use Rattle.integers.specs.Integers.{floorOver, reduced}
-use Rattle.integers.proofs.Less.{Less}
+use Rattle.integers.proofs.Less.{Less, less-add}
 
 pub reduced-small : (z : ℤ) (m : ℕ) → 0 < m → reduced z m < m
 unfolding reduced
@@ -70,3 +70,24 @@ floor-left (pos n) q m hq hm = sym (remainder-by n q m hq hm)
 floor-left (negsuc n) q m hq hm =
     let x : suc (n / q % m) + (m - suc (n / q % m)) ≡ m = omega (arith, mod-lt (n / q) hm) in
     omega (arith, remainder-by n q m hq hm, mod-lt n hq, ap (λ (t : ℕ). t * q) x)
+
+-- an integer is what it reduces to and whole turns, forwards or back
+record Turns (z : ℤ) (m : ℕ) : Type 0 where
+  on : ℕ
+  back : ℕ
+  whole : Less z (reduced z m + on * m) (back * m)
+
+turned : (z : ℤ) (m : ℕ) → 0 < m → Turns z m
+unfolding reduced
+turned (pos n) m h = record { on = n / m; back = 0; whole = omega (arith, mod-add-div' n m) }
+turned (negsuc n) m h = record { on = 0; back = suc (n / m); whole = omega (arith, mod-add-div' n m, mod-lt n h) }
+
+-- a sum reduces to the sum of what its two parts reduce to, reduced
+pub reduced-sum : (z y : ℤ) (m : ℕ) → 0 < m → reduced (z +ℤ y) m ≡ (reduced z m + reduced y m) % m
+reduced-sum z y m h =
+    let s = turned z m h in
+    let t = turned y m h in
+    less-reduced (z +ℤ y) (reduced z m + s .on * m + (reduced y m + t .on * m)) (s .back * m + t .back * m)
+    (reduced z m + reduced y m + (s .on + t .on) * m) m (s .back + t .back) h
+    (less-add z y (reduced z m + s .on * m) (s .back * m) (reduced y m + t .on * m) (t .back * m) (s .whole) (t .whole)) (omega arith)
+    ∙ add-mul-mod-self-right (reduced z m + reduced y m) (s .on + t .on) m

@@ -28,11 +28,11 @@ pub record RowInRange (row : Row) : Type 0 where
   pub back : backwards (row .p) ≤ circle * row .q
   pub motion : forwards (row .p) (row .q) < 100000000
 
-abbrev row-of : ℕ → ℕ → ℤ → ℕ → Row
+abbrev pub row-of : ℕ → ℕ → ℤ → ℕ → Row
 row-of K D p q = record { K = K; D = D; p = p; q = q }
 
 -- q times the exact longitude as a difference of naturals, for a motion u − v
-exact-less : (K D : ℕ) (p : ℤ) (q C A u v : ℕ) → Less p u v → Less (exactTimesQ (row-of K D p q) C A) ((K + 0) * q + A * u) ((0 + C * D) * q + A * v)
+pub exact-less : (K D : ℕ) (p : ℤ) (q C A u v : ℕ) → Less p u v → Less (exactTimesQ (row-of K D p q) C A) ((K + 0) * q + A * u) ((0 + C * D) * q + A * v)
 exact-less K D p q C A u v h =
     less-add ((pos K -ℤ pos (C * D)) *ℤ pos q) (pos A *ℤ p) ((K + 0) * q) ((0 + C * D) * q) (A * u) (A * v)
     (less-times (pos K -ℤ pos (C * D)) (K + 0) (0 + C * D) q (less-minus (pos K) (pos (C * D)) K 0 (C * D) 0 (less-pos K) (less-pos (C * D))))

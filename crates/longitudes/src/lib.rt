@@ -56,21 +56,25 @@ pub const SUN: Motion = Motion {
     q: 35,
 };
 
+pub const MOON: Motion = Motion {
+    k: 1256760,
+    d: 13571,
+    p: 5644749,
+    q: 119,
+};
+
+pub const MOON_APOGEE: Motion = Motion {
+    k: 603180,
+    d: 981900,
+    p: 2806,
+    q: 7,
+};
+
 // Paper 01's table, in the order of `Body`. The node goes 10876 / 57 backwards: a circle less that forwards.
 const TABLE: [Motion; BODIES] = [
     SUN,
-    Motion {
-        k: 1256760,
-        d: 13571,
-        p: 5644749,
-        q: 119,
-    },
-    Motion {
-        k: 603180,
-        d: 981900,
-        p: 2806,
-        q: 7,
-    },
+    MOON,
+    MOON_APOGEE,
     Motion {
         k: 99480,
         d: 766200,
