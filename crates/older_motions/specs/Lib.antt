@@ -1,0 +1,2 @@
+pub mod OlderMotions
+pub mod Drifts
