@@ -1,0 +1,3 @@
+pub mod Lines
+mod Fitting
+pub mod Worked

@@ -1,0 +1,55 @@
+-- The sheet of the three drifts: from the bytes of the input to the bytes that are printed, a heading and a line for each of the three, or a refusal.
+-- Assumes nothing.
+use mathlib.Core.Bool.{cond}
+use mathlib.Core.List.{List, [], _∷_, _++_}
+use Prim.Native.Nat.{ℕ}
+use lib.Dec.{eqb}
+use lib.ListN.{getD}
+use Rattle.dated.specs.Dated.{dayBytes}
+use Rattle.days.specs.Refusals.{accepted}
+use Rattle.older_motions.specs.declared.Farthest.{Farthest}
+use Rattle.older_motions.specs.declared.Drifts.{Drifts}
+use Rattle.older_motions.specs.Drifts.{noDrifts, driftsOver}
+use Rattle.span_line.specs.declared.Span.{Span}
+use Rattle.span_line.specs.SpanLine.{spanInput}
+use Rattle.text.specs.Ascii.{ascii}
+use Rattle.text.specs.Decimal.{digitsOf}
+use Rattle.text.specs.Lines.{refusalLine}
+use Rattle.words.specs.Names.{bodyNames}
+use Rattle.words.specs.Words.{nameAt}
+
+unfoldable pub driftHeading : List ℕ
+driftHeading = ascii "body numerator divisor day date\n"
+
+-- the line of the body with the number b: the fraction, the day and its date
+unfoldable pub bodyLine : ℕ → ℕ → ℕ → ℕ → List ℕ
+bodyLine b numerator divisor day =
+    nameAt bodyNames b ++ (ascii " " ++ (digitsOf numerator ++ (ascii " " ++ (digitsOf divisor ++ (ascii " " ++ (dayBytes day ++ ascii "\n"))))))
+
+abbrev pub bodyLineOf : ℕ → Farthest → List ℕ
+bodyLineOf b x = bodyLine b (x .numerator) (x .divisor) (x .day)
+
+-- the drifts over the span that an input means; a refusal of the input is theirs
+unfoldable pub driftsRead : List ℕ → Drifts
+driftsRead bs =
+    let span : Span = spanInput bs in
+    cond (eqb (span .refusal) accepted) (driftsOver (span .first) (span .last)) (noDrifts (span .refusal))
+
+-- the lines of a sheet: the heading and the three, or the refusal
+unfoldable pub linesOf : Drifts → List (List ℕ)
+linesOf d =
+    cond (eqb (d .refusal) accepted)
+    (driftHeading ∷ bodyLineOf 0 (d .sun) ∷ bodyLineOf 1 (d .moon) ∷ bodyLineOf 2 (d .apogee) ∷ [])
+    (refusalLine (d .refusal) ∷ [])
+
+-- line k, counted from 0; behind the last one nothing
+unfoldable pub lineOf : Drifts → ℕ → List ℕ
+lineOf d k = getD (linesOf d) k []
+
+-- ALL THAT IS PRINTED: the lines one after another
+unfoldable pub joined : List (List ℕ) → List ℕ
+joined [] = []
+joined (l ∷ ls) = l ++ joined ls
+
+unfoldable pub driftSheet : Drifts → List ℕ
+driftSheet d = joined (linesOf d)
