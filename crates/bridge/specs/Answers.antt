@@ -7,6 +7,9 @@ use lib.Dec.{eqb}
 use lib.ListN.{length, getD}
 use Rattle.days.specs.Refusals.{badInput}
 use Rattle.entries.specs.Entries.{capacity}
+use Rattle.older_motions.specs.declared.Farthest.{Farthest}
+use Rattle.older_motions.specs.declared.Drifts.{Drifts}
+use Rattle.older_motions.specs.Drifts.{nothing}
 use Rattle.reasons.specs.Reasons.{Numbers, noAnswer, whyOf}
 use Rattle.search.specs.declared.Examined.{Examined}
 use Rattle.search.specs.Look.{notExamined, examinedOf}
@@ -38,3 +41,7 @@ bridgeWhy bytes day = cond (eqb (length bytes) queryBytes) (whyOf (queryFrom byt
 -- the values asked, in six places; behind the last one zeros
 abbrev pub sixOf : List ℕ → List ℕ
 sixOf asked = getD asked 0 0 ∷ getD asked 1 0 ∷ getD asked 2 0 ∷ getD asked 3 0 ∷ getD asked 4 0 ∷ getD asked 5 0 ∷ []
+
+-- of the three drifts the one of that number, 0 the Sun's; behind the last one zeros
+unfoldable pub oneOf : Drifts → ℕ → Farthest
+oneOf drifts body = getD (drifts .sun ∷ drifts .moon ∷ drifts .apogee ∷ []) body nothing

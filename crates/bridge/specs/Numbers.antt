@@ -6,6 +6,7 @@ use mathlib.Core.Path.{_≡_}
 use Prim.Native.Nat.{ℕ}
 use Rattle.days.specs.declared.NumberAnswer.{NumberAnswer}
 use Rattle.longitudes.specs.declared.MeanLongitude.{MeanLongitude}
+use Rattle.older_motions.specs.declared.Farthest.{Farthest}
 use Rattle.panchanga.specs.declared.Panchanga.{Panchanga}
 use Rattle.planets.specs.declared.TrueLongitudes.{TrueLongitudes}
 use Rattle.reasons.specs.Conditions.{Cause}
@@ -47,6 +48,11 @@ pub record BridgeElement (meant found : NumberAnswer) : Type 0 where
 pub record BridgePlanets (meant found : TrueLongitudes) : Type 0 where
   pub refusal : found .refusal ≡ meant .refusal
   pub longitudes : found .longitudes ≡ meant .longitudes
+
+pub record BridgeFarthest (meant found : Farthest) : Type 0 where
+  pub numerator : found .numerator ≡ meant .numerator
+  pub divisor : found .divisor ≡ meant .divisor
+  pub day : found .day ≡ meant .day
 
 pub record BridgeCause (meant : Cause) (found : CauseFound) : Type 0 where
   pub condition : found .condition ≡ meant .condition
