@@ -60,6 +60,11 @@ static void all_months(uint32_t (*fill)(uint32_t, plain_record *, uint64_t), uin
 static void months(uint32_t edition, size_t unused) { (void)unused, all_months(fill_records, edition, month); }
 static void plain_months(uint32_t edition, size_t unused) { (void)unused, all_months(plain_fill_records, edition, other_month); }
 
+/* The three drifts over the whole span; of each side one is handed back. The call is of the comparison's archive, bridge. */
+uint64_t bridge_drift_numerator(uint32_t first, uint32_t last, uint32_t body);
+static void drifts(uint32_t body, size_t unused) { (void)unused, sink += bridge_drift_numerator(0, DAYS - 1, body); }
+static void plain_drifts(uint32_t body, size_t unused) { (void)unused, sink += plain_drift(0, DAYS - 1, body).numerator; }
+
 typedef struct {
     const char *name;
     void (*search)(uint32_t, size_t);
@@ -195,6 +200,12 @@ int main(int count, char **word) {
     pair("Saka date, an extra month pending or not", call_job(pending), call_job(pending_plain), 1.1);
     pair("thirty records at one go, edition 1", search_job(months, 1, 0), search_job(plain_months, 1, 0), 1.1);
     pair("thirty records at one go, edition 2", search_job(months, 2, 0), search_job(plain_months, 2, 0), 1.1);
+    pair("how far from the older books, over all days", search_job(drifts, 1, 0), search_job(plain_drifts, 1, 0), 1.1);
+    for (uint32_t body = 0; body < 3; body++)
+        if (bridge_drift_numerator(0, DAYS - 1, body) != plain_drift(0, DAYS - 1, body).numerator) {
+            puts("the two drifts differ");
+            return 1;
+        }
     if (memcmp(month, other_month, sizeof month)) {
         puts("the two months differ");
         return 1;

@@ -221,3 +221,41 @@ plain_found plain_sign_entries(uint32_t first, uint32_t last, uint8_t *list, siz
     }
     return found;
 }
+
+/* How far ahead of an older motion the mean place is, in parts of a second: K is in both. */
+typedef struct {
+    uint64_t d, p, q, circles, days;
+} older;
+
+static inline uint64_t ahead_on(older m, uint32_t day) {
+    uint64_t seconds = CIRCLE * m.q, circle = seconds * m.days;
+    uint64_t mean = (day / 4016 * (CIRCLE - m.d) * m.q + day % 4016 * m.p) % seconds * m.days;
+    uint64_t other = day * m.circles % m.days * seconds;
+    return (mean + circle - other) % circle;
+}
+
+static inline plain_farthest farthest(older m, uint32_t first, uint32_t last) {
+    uint64_t circle = CIRCLE * m.q * m.days, gain = ahead_on(m, 1), ahead = ahead_on(m, first);
+    plain_farthest found = {ahead <= circle - ahead ? ahead : circle - ahead, first};
+    for (uint32_t day = first + 1; day <= last; day++) {
+        if (day % 4016 == 0) {
+            ahead = ahead_on(m, day);
+        } else {
+            ahead += gain;
+            if (ahead >= circle) ahead -= circle;
+        }
+        uint64_t distance = ahead <= circle - ahead ? ahead : circle - ahead;
+        if (distance > found.numerator) found = (plain_farthest){distance, day};
+    }
+    return found;
+}
+
+plain_farthest plain_drift(uint32_t first, uint32_t last, uint32_t body) {
+    if (first > LAST || last > LAST || last < first) return (plain_farthest){0, 0};
+    plain_farthest three[] = {
+        farthest((older){6551, 124186, 35, 4320000, 1577916450}, first, last),
+        farthest((older){13571, 5644749, 119, 57753300, 1577916450}, first, last),
+        farthest((older){981900, 2806, 7, 488203, 1577917828}, first, last),
+    };
+    return body < 3 ? three[body] : (plain_farthest){0, 0};
+}

@@ -8,6 +8,12 @@ typedef struct {
     uint32_t day, weekday, longitudes[9], sun, moon, tithi, nakshatra, yoga, karana;
 } plain_record;
 
+typedef struct {
+    uint64_t numerator;
+    uint32_t day;
+} plain_farthest;
+
+plain_farthest plain_drift(uint32_t first, uint32_t last, uint32_t body);
 uint32_t plain_fill_records(uint32_t edition, plain_record *records, uint64_t len);
 uint32_t plain_mean_sun(uint32_t day);
 uint32_t plain_mean_moon(uint32_t day);
