@@ -19,7 +19,7 @@ import tempfile
 import textwrap
 
 ROOT = pathlib.Path(__file__).resolve().parent.parent
-PAGES = ["README.md", "docs/engraving.md", "docs/find.md", "docs/host.md", "docs/month.md", "docs/rules.md", "docs/signs.md", "docs/why.md"]
+PAGES = ["README.md", "docs/drift.md", "docs/engraving.md", "docs/find.md", "docs/host.md", "docs/month.md", "docs/rules.md", "docs/signs.md", "docs/why.md"]
 ARCHIVES = ["target/staticlib/libhost.a", "target/staticlib/librecords.a"]
 BLOCK = re.compile(r"^```(?P<language>\w*)\n(?P<fenced>.*?)^```$|(?P<indented>(?:^ {4}[^\n]*\n(?:\n+(?= {4}))?)+)", re.M | re.S)
 CLAIM = re.compile(r"`(graha_\w+\([\w,\s]*\))\s=\s(\d+)`")

@@ -1,5 +1,5 @@
 #!/usr/bin/env python3
-"""Recomputes every K, D and p/q of the nine bodies, the constants of the two equations and the tables of the five planets, from the
+"""Recomputes every K, D and p/q of the nine bodies, the constants of the two equations, the tables of the five planets and the older books' circles and days, from the
 numbers and formulas that sources 002 and 000 print, and compares them with the definitions in the crates' specs/. And holds the thirds,
 largest corrections and places that the sources print to the tables', by what docs/sources.md says of each: that it agrees, or by how
 much it misses.
@@ -16,6 +16,7 @@ ROOT = pathlib.Path(__file__).resolve().parent.parent
 TABLE = ROOT / "crates/longitudes/specs/Longitudes.antt"
 EQUATIONS = ROOT / "crates/panchanga/specs/TrueLongitudes.antt"
 PLANETS = ROOT / "crates/planets/specs/Tables.antt"
+OLDER = ROOT / "crates/older_motions/specs/OlderMotions.antt"
 
 # Source 002. K (kṣepaka) and D (dhruvaka) of its table 1 in degrees, minutes and seconds; the terms of its formula for the
 # motion a day, in degrees; the value that it prints beside the formula, in degrees, minutes, seconds and thirds.
@@ -52,6 +53,14 @@ BACKWARDS = {"Moon's node"}
 # Its table 3: the Sun's apogee.
 EQUATIONS_002 = {"trueSun": (9, 20, 57, 9), "moonAlone": (6, 30, 56, 20)}
 SUN_APOGEE = (78,)
+
+# The older books. Source 000's table 4: circles in a Kalpa, days in a Mahāyuga, a thousandth of one. Source 003's tables 6.1 and 6.2: circles and days in
+# a Kalpa; of the Sūryasiddhānta's days it prints two digits too few, and what is held are its diurnal revolutions of stars less the Sun's circles.
+OLDER_BOOKS = [
+    ("sun", (4320000000, 1577916450), (4320000000, 1577916450000)),
+    ("moon", (57753300000, 1577916450), (57753300000, 1577916450000)),
+    ("apogee", (488203000, 1577917828), (488203000, 1582237828000 - 4320000000)),
+]
 
 # What docs/sources.md says of the thirds that 002 prints: rounded down, rounded to the nearest, or neither.
 PRINTED_THIRDS = ["down", "nearest", "neither", "neither", "down", "down", "down", "down", "neither"]
@@ -221,11 +230,20 @@ def planets():
         same(f"{name} on (45, 3699): minutes that 002 has more", (seconds(angle) - true_place(planet, 45, 3699) // 60 * 60) // 60 % 21600, more)
 
 
+def older():
+    text = OLDER.read_text(encoding="utf-8")
+    for name, (circles, days), (circles_003, days_003) in OLDER_BOOKS:
+        found = re.search(rf"^{name}Motion = .*circles = (\d+); days = (\d+)", text, re.M)
+        same(f"{name}: circles and days of 000", tuple(map(int, found.groups())), (circles // 1000, days))
+        same(f"{name}: circles and days of 003", tuple(map(int, found.groups())), (circles_003 // 1000, days_003 // 1000))
+
+
 rows()
 mercury()
 thirds()
 places()
 equations()
 planets()
+older()
 print("the table is the sources'" if not failed else "the table is NOT the sources'")
 sys.exit(failed)
