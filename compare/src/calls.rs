@@ -118,6 +118,12 @@ unsafe extern "C" {
     pub safe fn bridge_longitude_remainder(body: u32, day: u32) -> u32;
     pub safe fn bridge_longitude_divisor(body: u32, day: u32) -> u32;
 
+    /// The drift from the older books: body 0 Sun, 1 Moon, 2 its apogee; a body above 2 gives 0.
+    pub safe fn bridge_drift_result(first: u32, last: u32) -> u32;
+    pub safe fn bridge_drift_numerator(first: u32, last: u32, body: u32) -> u64;
+    pub safe fn bridge_drift_divisor(first: u32, last: u32, body: u32) -> u64;
+    pub safe fn bridge_drift_day(first: u32, last: u32, body: u32) -> u32;
+
     /// The true places of the five star planets, together.
     pub safe fn bridge_planets_result(day: u32) -> u32;
     /// Planets are 0 Mars to 4 Saturn; a planet above 4 gives 0.

@@ -55,6 +55,9 @@ fn main() {
     checks.part("entries into signs", |checks| {
         runs::signs::run(checks, &almanac)
     });
+    checks.part("drift from the older books", |checks| {
+        runs::drift::run(checks, &almanac)
+    });
     checks.part("lines into a buffer", |checks| {
         runs::lines::run(checks, &almanac)
     });

@@ -98,6 +98,16 @@ impl Body {
     }
 }
 
+/// The exact mean place of a body, neither rounded nor reduced.
+pub fn exact_place(body: usize, pair: Pair) -> Fraction {
+    BODIES[body].exact_place(pair)
+}
+
+/// A body's divisor, "the table's q".
+pub fn divisor(body: usize) -> i128 {
+    BODIES[body].q
+}
+
 /// "The nine mean places are handed back together, in the order of this table"; "beside the nine
 /// mean places come their nine thirds".
 pub fn longitudes(pair: Pair) -> [Longitude; 9] {

@@ -1,6 +1,6 @@
-//! A span by itself, as paper 02's L10 asks for it, and the line with two days in which the program
-//! `signs` reads one. The papers leave the line open: it is that of a page's span without its word
-//! (`page`), and nothing may stand behind its newline.
+//! A span by itself, as paper 02's L10 and L12 ask for it, and the line with two days in which the
+//! programs `signs` and `drift` read one. The papers leave the line open: it is that of a page's span
+//! without its word (`page`), and nothing may stand behind its newline.
 
 use super::almanac::Almanac;
 use super::page::{letters, read, TOO_LONG};
@@ -10,7 +10,7 @@ use super::search::Query;
 /// First and last day.
 pub type Span = (u32, u32);
 
-/// "Refusals: 2, 5 [...] as in the search."
+/// "Refusals: 2, 5 [...] as in the search"; and L12's "2, 5".
 pub fn well_formed((first, last): Span) -> Answer<()> {
     Query::without_conditions(first, last)
         .well_formed()

@@ -4,6 +4,7 @@ pub mod civil;
 pub mod day_input;
 pub mod day_sheet;
 pub mod days;
+pub mod drift;
 pub mod elements;
 pub mod engraving;
 pub mod find;
