@@ -1,17 +1,17 @@
 -- How far the mean longitude is ahead, in naturals, once over K, D, p, q, the circles and the days: whole circles are taken off each of the two before it is multiplied; and what a day of a cycle gains is what day 1 did.
 -- Assumes nothing.
 use mathlib.Core.Path.{_≡_, refl, ap, _∙_}
-use Prim.Native.Nat.{ℕ, suc, _+_, _*_, _-_, _/_, _%_, _≤_, _<_}
+use Prim.Native.Nat.{ℕ, suc, _+_, _*_, _-_, _/_, _%_, _<_}
 use native.Mathlib.Omega.{arith}
-use native.Mathlib.Nat.{add-mul-mod-self-right, div-add-mod', mod-lt, mul-le-mul, mul-le-mul-right}
-use lib.IntN.{ℤ, pos, _+ℤ_, _-ℤ_, _*ℤ_}
+use native.Mathlib.Nat.{add-mul-mod-self-right, div-add-mod', mod-lt, mul-le-mul-right}
+use lib.IntN.{ℤ, pos, _+ℤ_, _-ℤ_}
 use Rattle.days.specs.Days.{cycleDays}
 use Rattle.integers.proofs.Less.{Less, less-pos, less-add, less-minus, less-times, less-shift, less-same}
 use Rattle.integers.specs.Integers.{reduced}
-use Rattle.integers.proofs.Reduced.{less-reduced, reduced-small, reduced-sum}
+use Rattle.integers.proofs.Reduced.{less-reduced, reduced-sum}
 use Rattle.longitudes.specs.Longitudes.{circle, exactTimesQ}
 use Rattle.longitudes.proofs.Mean.{row-of, exact-less}
-use Rattle.older_motions.specs.OlderMotions.{OlderMotion, divisorOf, wholeCircle, meanExact, olderExact, aheadOn}
+use Rattle.older_motions.specs.OlderMotions.{OlderMotion, wholeCircle, meanExact, olderExact, aheadOn}
 
 -- of cycle C and day A within it: t and u circles are taken off the two, r and s are left, and x is what a circle has above the older one's
 circles-off :

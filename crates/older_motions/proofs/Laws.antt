@@ -1,15 +1,13 @@
 -- What is handed back for a span: no day of it is farther, the day has that distance, and no earlier day of the span has it; and nothing else is handed back that this holds of.
 -- Assumes nothing.
-use mathlib.Core.Path.{_≡_, refl, ap, sym, _∙_}
+use mathlib.Core.Path.{_≡_, refl, sym}
 use Prim.Native.Nat.{ℕ, suc, _+_, _*_, _-_, _≤_, _<_}
 use native.Mathlib.Omega.{arith}
 use borrow.Author.Tests.{eq-eqb, ne-eqb}
 use Rattle.integers.proofs.Reduced.{reduced-small}
 use Rattle.days.specs.Refusals.{accepted}
-use Rattle.days.specs.Days.{daysFrom, spanRefusal}
-use Rattle.older_motions.specs.declared.Farthest.{Farthest}
-use Rattle.older_motions.specs.declared.Drifts.{Drifts}
-use Rattle.older_motions.specs.OlderMotions.{OlderMotion, sunMotion, moonMotion, apogeeMotion, divisorOf, wholeCircle, aheadOn, shortWay, distanceOn, largest, firstWith}
+use Rattle.days.specs.Days.{spanRefusal}
+use Rattle.older_motions.specs.OlderMotions.{OlderMotion, sunMotion, moonMotion, apogeeMotion, divisorOf, wholeCircle, aheadOn, shortWay, distanceOn}
 use Rattle.older_motions.specs.Drifts.{farthestOver, noDrifts, driftsOver}
 use Rattle.older_motions.proofs.Peaks.{Peak, peak-of, peak-most, peak-day}
 
