@@ -10,7 +10,7 @@ fn print_drifts(input: &[u8]) {
 }
 
 fn main() {
-    let mut buffer = [0u8; span_line::TOO_LONG];
+    let mut buffer = [0u8; text::TOO_LONG];
     let n = input::read_input(&mut buffer);
     print_drifts(&buffer[..n]);
 }

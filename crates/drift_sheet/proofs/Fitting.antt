@@ -18,7 +18,7 @@ use Rattle.text.proofs.Printing.{digits-length}
 use Rattle.words.specs.Names.{bodyNames}
 use Rattle.words.specs.Words.{nameAt}
 use Rattle.words.proofs.Names.{noLonger, name-length}
-use Rattle.drift_sheet.specs.DriftSheets.{driftHeading, bodyLine}
+use Rattle.drift_sheet.specs.DriftSheets.{driftHeading, driftLine}
 
 pub heading-fits : length driftHeading ≤ lineCapacity
 unfolding driftHeading
@@ -40,8 +40,8 @@ any-day-short n h = go (decLe n lastDay)
     go (yes l) = day-short n l
     go (no l) = no-day-short n (omega arith) h
 
-pub body-line-fits : (b n d day : ℕ) → n < 18446744073709551616 → d < 18446744073709551616 → day < 4294967296 → length (bodyLine b n d day) ≤ lineCapacity
-unfolding bodyLine
+pub body-line-fits : (b n d day : ℕ) → n < 18446744073709551616 → d < 18446744073709551616 → day < 4294967296 → length (driftLine b n d day) ≤ lineCapacity
+unfolding driftLine
 body-line-fits b n d day hn hd h =
     let name = name-short b in
     let numerator = digits-length 19 n (omega arith) in
@@ -53,8 +53,8 @@ pub body-line-made :
     (l : Line) (b n d day : ℕ) {name : List ℕ} →
     name ≡ nameAt bodyNames b →
     withByte (withBytes (withByte (withBytes (withByte (withBytes (withByte (withBytes l name) space) (digitsOf n)) space) (digitsOf d)) space) (dayBytes day)) newline
-    ≡ withBytes l (bodyLine b n d day)
-unfolding bodyLine
+    ≡ withBytes l (driftLine b n d day)
+unfolding driftLine
 body-line-made l b n d day e = rw e (together l (nameAt bodyNames b) (digitsOf n) (digitsOf d) (dayBytes day))
   where
     together :

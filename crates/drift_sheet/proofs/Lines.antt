@@ -12,7 +12,7 @@ use Rattle.older_motions.specs.Drifts.{noDrifts, driftsOver}
 use Rattle.span_line.specs.declared.Span.{Span}
 use Rattle.span_line.specs.SpanLine.{spanInput}
 use Rattle.text.specs.Lines.{refusalLine}
-use Rattle.drift_sheet.specs.DriftSheets.{driftHeading, bodyLineOf, driftsRead, linesOf, lineOf, joined, driftSheet}
+use Rattle.drift_sheet.specs.DriftSheets.{driftHeading, driftLineOf, driftsRead, linesOf, driftSheetLine, joined, driftSheet}
 
 module _ (bs : List ℕ) (span : Span) (e : span ≡ spanInput bs) where
   pub input-refused : (span .refusal ≡ accepted → ⊥) → driftsRead bs ≡ noDrifts (span .refusal)
@@ -25,34 +25,34 @@ module _ (bs : List ℕ) (span : Span) (e : span ≡ spanInput bs) where
 
 -- ---- which line is meant
 module _ (d : Drifts) (r : d .refusal ≡ accepted → ⊥) where
-  pub first-refused : (k : ℕ) → k ≡ 0 → lineOf d k ≡ refusalLine (d .refusal)
-  unfolding lineOf linesOf
+  pub first-refused : (k : ℕ) → k ≡ 0 → driftSheetLine d k ≡ refusalLine (d .refusal)
+  unfolding driftSheetLine linesOf
   first-refused k h = rw (h, ne-eqb (d .refusal) accepted r)
 
-  pub rest-refused : (k : ℕ) → (k ≡ 0 → ⊥) → lineOf d k ≡ []
-  unfolding lineOf linesOf
+  pub rest-refused : (k : ℕ) → (k ≡ 0 → ⊥) → driftSheetLine d k ≡ []
+  unfolding driftSheetLine linesOf
   rest-refused zero h = absurd (h refl)
   rest-refused (suc k) h = rw (ne-eqb (d .refusal) accepted r)
 
 module _ (d : Drifts) (r : d .refusal ≡ accepted) where
-  pub line-0 : (k : ℕ) → k ≡ 0 → lineOf d k ≡ driftHeading
-  unfolding lineOf linesOf
+  pub line-0 : (k : ℕ) → k ≡ 0 → driftSheetLine d k ≡ driftHeading
+  unfolding driftSheetLine linesOf
   line-0 k h = rw (h, eq-eqb (d .refusal) accepted r)
 
-  pub line-1 : (k : ℕ) → k ≡ 1 → lineOf d k ≡ bodyLineOf 0 (d .sun)
-  unfolding lineOf linesOf
+  pub line-1 : (k : ℕ) → k ≡ 1 → driftSheetLine d k ≡ driftLineOf 0 (d .sun)
+  unfolding driftSheetLine linesOf
   line-1 k h = rw (h, eq-eqb (d .refusal) accepted r)
 
-  pub line-2 : (k : ℕ) → k ≡ 2 → lineOf d k ≡ bodyLineOf 1 (d .moon)
-  unfolding lineOf linesOf
+  pub line-2 : (k : ℕ) → k ≡ 2 → driftSheetLine d k ≡ driftLineOf 1 (d .moon)
+  unfolding driftSheetLine linesOf
   line-2 k h = rw (h, eq-eqb (d .refusal) accepted r)
 
-  pub line-3 : (k : ℕ) → k ≡ 3 → lineOf d k ≡ bodyLineOf 2 (d .apogee)
-  unfolding lineOf linesOf
+  pub line-3 : (k : ℕ) → k ≡ 3 → driftSheetLine d k ≡ driftLineOf 2 (d .apogee)
+  unfolding driftSheetLine linesOf
   line-3 k h = rw (h, eq-eqb (d .refusal) accepted r)
 
-  pub none-behind : (k : ℕ) → 4 ≤ k → lineOf d k ≡ []
-  unfolding lineOf linesOf
+  pub none-behind : (k : ℕ) → 4 ≤ k → driftSheetLine d k ≡ []
+  unfolding driftSheetLine linesOf
   none-behind zero h = absurd (omega arith)
   none-behind (suc zero) h = absurd (omega arith)
   none-behind (suc (suc zero)) h = absurd (omega arith)
@@ -60,10 +60,10 @@ module _ (d : Drifts) (r : d .refusal ≡ accepted) where
   none-behind (suc (suc (suc (suc k)))) h = rw (eq-eqb (d .refusal) accepted r)
 
 -- the four lines are all that is printed
-pub lines-together : (d : Drifts) → lineOf d 0 ++ (lineOf d 1 ++ (lineOf d 2 ++ (lineOf d 3 ++ []))) ≡ driftSheet d
-unfolding lineOf linesOf driftSheet joined
+pub lines-together : (d : Drifts) → driftSheetLine d 0 ++ (driftSheetLine d 1 ++ (driftSheetLine d 2 ++ (driftSheetLine d 3 ++ []))) ≡ driftSheet d
+unfolding driftSheetLine linesOf driftSheet joined
 lines-together d = go (eqb (d .refusal) accepted) refl
   where
-    go : (t : Bool) → eqb (d .refusal) accepted ≡ t → lineOf d 0 ++ (lineOf d 1 ++ (lineOf d 2 ++ (lineOf d 3 ++ []))) ≡ driftSheet d
+    go : (t : Bool) → eqb (d .refusal) accepted ≡ t → driftSheetLine d 0 ++ (driftSheetLine d 1 ++ (driftSheetLine d 2 ++ (driftSheetLine d 3 ++ []))) ≡ driftSheet d
     go true e = rw e
     go false e = rw e

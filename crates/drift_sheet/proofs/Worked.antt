@@ -8,13 +8,13 @@ use Rattle.dated.specs.Dated.{dateBytes, dayBytes}
 use Rattle.days.specs.Days.{daysFrom, spanRefusal}
 use Rattle.integers.specs.Integers.{reduced}
 use Rattle.longitudes.specs.Longitudes.{table}
-use Rattle.older_motions.specs.OlderMotions.{sunMotion, moonMotion, apogeeMotion, aheadOn, distanceOn, largest, firstWith}
+use Rattle.older_motions.specs.OlderMotions.{sunMotion, moonMotion, apogeeMotion, aheadOn, distanceOn, largestOver, firstWith}
 use Rattle.older_motions.specs.Drifts.{farthestOver, driftsOver}
 use Rattle.text.specs.Ascii.{ascii}
 use Rattle.text.specs.Decimal.{digitsWithin, digitsOf}
 use Rattle.text.specs.Lines.{refusalLine}
 use Rattle.words.specs.Words.{nameAt}
-use Rattle.drift_sheet.specs.DriftSheets.{driftHeading, bodyLine, linesOf, joined, driftSheet}
+use Rattle.drift_sheet.specs.DriftSheets.{driftHeading, driftLine, linesOf, joined, driftSheet}
 
 pub sheets :
     driftSheet (driftsOver 0 0) ∷ driftSheet (driftsOver 0 401600) ∷ driftSheet (driftsOver 1 0) ∷ []
@@ -22,5 +22,5 @@ pub sheets :
     ∷ ascii "refused 2\n"
     ∷ ascii "refused 5\n"
     ∷ []
-unfolding driftSheet joined linesOf driftHeading bodyLine refusalLine nameAt dayBytes dateBytes dateOfDay dateOn digitsOf digitsWithin driftsOver spanRefusal farthestOver distanceOn aheadOn sunMotion moonMotion apogeeMotion table reduced largest firstWith daysFrom
+unfolding driftSheet joined linesOf driftHeading driftLine refusalLine nameAt dayBytes dateBytes dateOfDay dateOn digitsOf digitsWithin driftsOver spanRefusal farthestOver distanceOn aheadOn sunMotion moonMotion apogeeMotion table reduced largestOver firstWith daysFrom
 sheets = refl

@@ -22,12 +22,12 @@ unfoldable pub driftHeading : List ℕ
 driftHeading = ascii "body numerator divisor day date\n"
 
 -- the line of the body with the number b: the fraction, the day and its date
-unfoldable pub bodyLine : ℕ → ℕ → ℕ → ℕ → List ℕ
-bodyLine b numerator divisor day =
+unfoldable pub driftLine : ℕ → ℕ → ℕ → ℕ → List ℕ
+driftLine b numerator divisor day =
     nameAt bodyNames b ++ (ascii " " ++ (digitsOf numerator ++ (ascii " " ++ (digitsOf divisor ++ (ascii " " ++ (dayBytes day ++ ascii "\n"))))))
 
-abbrev pub bodyLineOf : ℕ → Farthest → List ℕ
-bodyLineOf b x = bodyLine b (x .numerator) (x .divisor) (x .day)
+abbrev pub driftLineOf : ℕ → Farthest → List ℕ
+driftLineOf b x = driftLine b (x .numerator) (x .divisor) (x .day)
 
 -- the drifts over the span that an input means; a refusal of the input is theirs
 unfoldable pub driftsRead : List ℕ → Drifts
@@ -39,12 +39,12 @@ driftsRead bs =
 unfoldable pub linesOf : Drifts → List (List ℕ)
 linesOf d =
     cond (eqb (d .refusal) accepted)
-    (driftHeading ∷ bodyLineOf 0 (d .sun) ∷ bodyLineOf 1 (d .moon) ∷ bodyLineOf 2 (d .apogee) ∷ [])
+    (driftHeading ∷ driftLineOf 0 (d .sun) ∷ driftLineOf 1 (d .moon) ∷ driftLineOf 2 (d .apogee) ∷ [])
     (refusalLine (d .refusal) ∷ [])
 
 -- line k, counted from 0; behind the last one nothing
-unfoldable pub lineOf : Drifts → ℕ → List ℕ
-lineOf d k = getD (linesOf d) k []
+unfoldable pub driftSheetLine : Drifts → ℕ → List ℕ
+driftSheetLine d k = getD (linesOf d) k []
 
 -- ALL THAT IS PRINTED: the lines one after another
 unfoldable pub joined : List (List ℕ) → List ℕ

@@ -4,7 +4,7 @@ use older_motions::Drifts;
 use text::Line;
 ghost use mathlib.Core.Path.{_≡_};
 ghost use Rattle.text.specs.Lines.{Holds};
-ghost use Rattle.drift_sheet.specs.DriftSheets.{driftHeading, bodyLine, driftsRead, lineOf};
+ghost use Rattle.drift_sheet.specs.DriftSheets.{driftHeading, driftLine, driftsRead, driftSheetLine};
 
 // The heading, and a line for each of the three.
 pub const LINES: usize = 4;
@@ -27,7 +27,7 @@ fn heading() -> Line
 }
 
 fn body_line(body: usize, numerator: u64, divisor: u64, day: u32) -> Line
-    ensures { λ r. ⌜ Holds r (bodyLine body numerator divisor day) ⌝ }
+    ensures { λ r. ⌜ Holds r (driftLine body numerator divisor day) ⌝ }
 {
     let names = words::BODIES;
     let name = words::name_at(&names, body);
@@ -43,7 +43,7 @@ fn body_line(body: usize, numerator: u64, divisor: u64, day: u32) -> Line
 
 // One of the lines that are printed for drifts, counted from 0; behind the last one nothing.
 pub fn line(drifts: Drifts, index: usize) -> Line
-    ensures { λ r. ⌜ Holds r (lineOf drifts index) ⌝ }
+    ensures { λ r. ⌜ Holds r (driftSheetLine drifts index) ⌝ }
 {
     if drifts.refusal != refusal::NONE {
         if index == 0 {

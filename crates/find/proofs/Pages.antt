@@ -9,9 +9,10 @@ use Rattle.page.specs.Page.{pageRead}
 use Rattle.page.proofs.Accepted.{accepted-page}
 use Rattle.page.proofs.LineNumbers.{line-number}
 use Rattle.query.specs.Query.{refusalOf}
+use Rattle.text.specs.Inputs.{tooLong}
 
 pub accepted-query : (text : List ℕ) (read : PageRead) → read ≡ pageRead text → read .refusal ≡ 0 → refusalOf (read .query) ≡ 0
 accepted-query text read e r = rw e (accepted-page text (rw e at r))
 
-pub small-number : (text : List ℕ) (read : PageRead) → read ≡ pageRead text → length text ≤ 524288 → read .line < 4294967296
+pub small-number : (text : List ℕ) (read : PageRead) → read ≡ pageRead text → length text ≤ tooLong → read .line < 4294967296
 small-number text read e h = omega (arith, ap (λ (r : PageRead). r .line) e, line-number text)

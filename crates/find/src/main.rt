@@ -9,6 +9,7 @@ ghost use mathlib.Core.Bool.{true};
 ghost use Prim.Native.Nat.{_+_, _<_, _≤_};
 ghost use lib.ListN.{length};
 ghost use Rattle.query.specs.Query.{refusalOf};
+ghost use Rattle.text.specs.Inputs.{tooLong};
 ghost use Rattle.text.specs.Lines.{lineCapacity};
 ghost use Rattle.catalogue.specs.Pieces.{listedFrom, dayLines};
 ghost use Rattle.catalogue.specs.Each.{EachFits};
@@ -16,10 +17,7 @@ ghost use Rattle.search.specs.Days.{matchingDays, visitedDays};
 ghost use Rattle.search.specs.Spans.{between};
 ghost use Rattle.find.specs.Output.{headingOf, outputOf, NextBytes, frontDays, NextDays};
 
-// A page has fewer bytes. With the list and the buffer a run keeps within 1 MiB of stack.
-const INPUT: usize = 524288;
-
-// A span with more matching days than the list has entries is searched part by part, with an entry for each day of a part.
+// With the page and the buffer a run keeps within 1 MiB of stack. A span with more matching days than the list has entries is searched part by part, with an entry for each day of a part.
 const PART: u32 = 16384;
 
 const LIST: usize = entries::ENTRY_BYTES * PART as usize;
@@ -172,7 +170,7 @@ fn refuse(read: PageRead)
 }
 
 fn read_and_find(input: &mut [u8])
-    requires { ⌜ length (now input) ≤ 524288 ⌝ }
+    requires { ⌜ length (now input) ≤ tooLong ⌝ }
 {
     let n = input::read_input(input);
     if n == input.len() {
@@ -189,6 +187,6 @@ fn read_and_find(input: &mut [u8])
 }
 
 fn main() {
-    let mut input = [0u8; INPUT];
+    let mut input = [0u8; text::TOO_LONG];
     read_and_find(&mut input);
 }

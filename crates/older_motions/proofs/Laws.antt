@@ -7,7 +7,7 @@ use borrow.Author.Tests.{eq-eqb, ne-eqb}
 use Rattle.integers.proofs.Reduced.{reduced-small}
 use Rattle.days.specs.Refusals.{accepted}
 use Rattle.days.specs.Days.{spanRefusal}
-use Rattle.older_motions.specs.OlderMotions.{OlderMotion, sunMotion, moonMotion, apogeeMotion, divisorOf, wholeCircle, aheadOn, shortWay, distanceOn}
+use Rattle.older_motions.specs.OlderMotions.{OlderMotion, sunMotion, moonMotion, apogeeMotion, divisorOf, wholeCircle, aheadOn, shorterWay, distanceOn}
 use Rattle.older_motions.specs.Drifts.{farthestOver, noDrifts, driftsOver}
 use Rattle.older_motions.proofs.Peaks.{Peak, peak-of, peak-most, peak-day}
 
@@ -36,7 +36,7 @@ pub ahead-small : (m : OlderMotion) → 0 < wholeCircle m → (n : ℕ) → ahea
 unfolding aheadOn
 ahead-small m h n = reduced-small _ (wholeCircle m) h
 
-pub distance-is : (m : OlderMotion) (n : ℕ) → shortWay (wholeCircle m) (aheadOn m n) ≡ distanceOn m n
+pub distance-is : (m : OlderMotion) (n : ℕ) → shorterWay (wholeCircle m) (aheadOn m n) ≡ distanceOn m n
 unfolding distanceOn
 distance-is m n = refl
 

@@ -9,7 +9,7 @@ use native.Mathlib.Omega.{arith}
 use lib.Dec.{eqb}
 use borrow.Author.Tests.{eqb-true, eqb-false}
 use Rattle.days.specs.Days.{daysFrom}
-use Rattle.older_motions.specs.OlderMotions.{largest, firstWith}
+use Rattle.older_motions.specs.OlderMotions.{largestOver, firstWith}
 
 pub record Peak (f : ℕ → ℕ) (first last most day : ℕ) : Type 0 where
   pub from : first ≤ day
@@ -109,8 +109,8 @@ module _ (f : ℕ → ℕ) where
       below d (no w) a u = p .before d (omega arith) u
 
   -- the largest value of one day, and of a day in front of others
-  peak-single : (first : ℕ) → Peak f first first (largest f (first ∷ [])) (firstWith f (largest f (first ∷ [])) (first ∷ []))
-  unfolding largest firstWith
+  peak-single : (first : ℕ) → Peak f first first (largestOver f (first ∷ [])) (firstWith f (largestOver f (first ∷ [])) (first ∷ []))
+  unfolding largestOver firstWith
   peak-single first = go (max (f first) 0) refl (eqb (f first) (max (f first) 0)) refl
     where
       go : (m : ℕ) → max (f first) 0 ≡ m → (b : Bool) → eqb (f first) m ≡ b → Peak f first first m (elim b [ true ↦ first | false ↦ 0 ])
@@ -120,22 +120,22 @@ module _ (f : ℕ → ℕ) where
   peak-front :
       (first last : ℕ) (rest : List ℕ) →
       first < last →
-      Peak f (suc first) last (largest f rest) (firstWith f (largest f rest) rest) →
-      Peak f first last (largest f (first ∷ rest)) (firstWith f (largest f (first ∷ rest)) (first ∷ rest))
-  unfolding largest firstWith
-  peak-front first last rest l p = go (max (f first) (largest f rest)) refl (eqb (f first) (max (f first) (largest f rest))) refl
+      Peak f (suc first) last (largestOver f rest) (firstWith f (largestOver f rest) rest) →
+      Peak f first last (largestOver f (first ∷ rest)) (firstWith f (largestOver f (first ∷ rest)) (first ∷ rest))
+  unfolding largestOver firstWith
+  peak-front first last rest l p = go (max (f first) (largestOver f rest)) refl (eqb (f first) (max (f first) (largestOver f rest))) refl
     where
-      go : (m : ℕ) → max (f first) (largest f rest) ≡ m → (b : Bool) → eqb (f first) m ≡ b → Peak f first last m (elim b [ true ↦ first | false ↦ firstWith f m rest ])
-      go m e true t = peak-first first last m (largest f rest) (firstWith f (largest f rest) rest) l p (eqb-true _ _ t) (omega arith)
+      go : (m : ℕ) → max (f first) (largestOver f rest) ≡ m → (b : Bool) → eqb (f first) m ≡ b → Peak f first last m (elim b [ true ↦ first | false ↦ firstWith f m rest ])
+      go m e true t = peak-first first last m (largestOver f rest) (firstWith f (largestOver f rest) rest) l p (eqb-true _ _ t) (omega arith)
       go m e false t =
-          let w : largest f rest ≡ m = omega (arith, eqb-false (f first) m t) in
+          let w : largestOver f rest ≡ m = omega (arith, eqb-false (f first) m t) in
           peak-later first last m (firstWith f m rest) (rw w at p) (omega (arith, eqb-false (f first) m t))
 
   -- THE MEANING'S LAW: over the n + 1 days from the first on
   pub peak-of :
       (n first last : ℕ) →
       first + n ≡ last →
-      Peak f first last (largest f (daysFrom first (suc n))) (firstWith f (largest f (daysFrom first (suc n))) (daysFrom first (suc n)))
+      Peak f first last (largestOver f (daysFrom first (suc n))) (firstWith f (largestOver f (daysFrom first (suc n))) (daysFrom first (suc n)))
   unfolding daysFrom
   peak-of zero first last s =
       let h : first ≡ last = omega arith in

@@ -3,7 +3,7 @@ use mathlib.Core.Path.{_≡_, sym, _∙_}
 use Prim.Native.Nat.{ℕ, _+_, _≤_, _<_}
 use native.Mathlib.Omega.{arith}
 use Rattle.older_motions.specs.declared.Farthest.{Farthest}
-use Rattle.older_motions.specs.OlderMotions.{OlderMotion, divisorOf, wholeCircle, shortWay, distanceOn}
+use Rattle.older_motions.specs.OlderMotions.{OlderMotion, divisorOf, wholeCircle, shorterWay, distanceOn}
 use Rattle.older_motions.specs.declared.Scan.{Scan}
 use Rattle.older_motions.specs.Drifts.{Scans, farthestOver}
 use Rattle.older_motions.proofs.Peaks.{Peak, peak-one, peak-stays, peak-moves}
@@ -17,13 +17,13 @@ pub record Scanned (m : OlderMotion) (first last : ℕ) (scan : Scan) (most day 
 
 module _ (m : OlderMotion) where
   -- the distance that the code finds on a day
-  found : (n circle distance : ℕ) (scan : Scan) → circle ≡ wholeCircle m → Scans m scan n → distance ≡ shortWay circle (scan .ahead) → distanceOn m n ≡ distance
+  found : (n circle distance : ℕ) (scan : Scan) → circle ≡ wholeCircle m → Scans m scan n → distance ≡ shorterWay circle (scan .ahead) → distanceOn m n ≡ distance
   found n circle distance scan ec es ed = sym (ed ∙ rw (ec, es .place) (distance-is m n))
 
   pub still : (scan : Scan) (a b : ℕ) → a ≡ b → Scans m scan a → Scans m scan b
   still scan a b e h = rw e at h
 
-  pub scan-start : (first last circle distance : ℕ) (scan : Scan) → first ≤ last → circle ≡ wholeCircle m → Scans m scan first → distance ≡ shortWay circle (scan .ahead) → Scanned m first last scan distance first first
+  pub scan-start : (first last circle distance : ℕ) (scan : Scan) → first ≤ last → circle ≡ wholeCircle m → Scans m scan first → distance ≡ shorterWay circle (scan .ahead) → Scanned m first last scan distance first first
   scan-start first last circle distance scan h ec es ed =
       record { from = omega arith; upto = h; place = es; peak = rw (found first circle distance scan ec es ed) at (peak-one (distanceOn m) first) }
 
@@ -33,7 +33,7 @@ module _ (m : OlderMotion) where
       next < last →
       circle ≡ wholeCircle m →
       Scans m scan (next + 1) →
-      distance ≡ shortWay circle (scan .ahead) →
+      distance ≡ shorterWay circle (scan .ahead) →
       distance ≤ most →
       Scanned m first last scan most day (next + 1)
   scan-stays first last most day next circle distance before scan s h ec es ed l =
@@ -50,7 +50,7 @@ module _ (m : OlderMotion) where
       next < last →
       circle ≡ wholeCircle m →
       Scans m scan (next + 1) →
-      distance ≡ shortWay circle (scan .ahead) →
+      distance ≡ shorterWay circle (scan .ahead) →
       most < distance →
       Scanned m first last scan distance (next + 1) (next + 1)
   scan-moves first last most day next circle distance before scan s h ec es ed l =

@@ -8,7 +8,7 @@ use Rattle.integers.specs.Integers.{reduced}
 use Rattle.longitudes.specs.Longitudes.{table}
 use Rattle.older_motions.specs.declared.Farthest.{Farthest}
 use Rattle.older_motions.specs.declared.Drifts.{Drifts}
-use Rattle.older_motions.specs.OlderMotions.{sunMotion, moonMotion, apogeeMotion, wholeCircle, aheadOn, distanceOn, largest, firstWith}
+use Rattle.older_motions.specs.OlderMotions.{sunMotion, moonMotion, apogeeMotion, wholeCircle, aheadOn, distanceOn, largestOver, firstWith}
 use Rattle.older_motions.specs.Drifts.{farthestOver, noDrifts, driftsOver}
 
 abbrev fraction : ℕ → ℕ → ℕ → Farthest
@@ -23,7 +23,7 @@ pub worked :
     ∷ three (fraction 684829602450 55227075750 4030) (fraction 10583455484250 187772057550 4015) (fraction 5380865387480 11045424796 4015)
     ∷ three (fraction 67976219891250 55227075750 401599) (fraction 891926461978200 187772057550 401599) (fraction 256409405211080 11045424796 401599)
     ∷ []
-unfolding driftsOver spanRefusal farthestOver distanceOn aheadOn sunMotion moonMotion apogeeMotion table reduced largest firstWith daysFrom
+unfolding driftsOver spanRefusal farthestOver distanceOn aheadOn sunMotion moonMotion apogeeMotion table reduced largestOver firstWith daysFrom
 worked = refl
 
 -- 2 comes before 5

@@ -13,13 +13,13 @@ use Rattle.older_motions.specs.declared.Farthest.{Farthest}
 use Rattle.older_motions.specs.declared.Drifts.{Drifts}
 use Rattle.older_motions.specs.declared.CodedMotion.{CodedMotion}
 use Rattle.older_motions.specs.declared.Scan.{Scan}
-use Rattle.older_motions.specs.OlderMotions.{OlderMotion, sunMotion, moonMotion, apogeeMotion, divisorOf, wholeCircle, aheadOn, distanceOn, largest, firstWith}
+use Rattle.older_motions.specs.OlderMotions.{OlderMotion, sunMotion, moonMotion, apogeeMotion, divisorOf, wholeCircle, aheadOn, distanceOn, largestOver, firstWith}
 
 -- over the days from the first to the last, both counted
 unfoldable pub farthestOver : OlderMotion → ℕ → ℕ → Farthest
 farthestOver m first last =
     let span : List ℕ = daysFrom first (last + 1 - first) in
-    let most : ℕ = largest (distanceOn m) span in
+    let most : ℕ = largestOver (distanceOn m) span in
     record { numerator = most; divisor = divisorOf m; day = firstWith (distanceOn m) most span }
 
 abbrev pub nothing : Farthest

@@ -47,16 +47,16 @@ unfoldable pub aheadOn : OlderMotion → ℕ → ℕ
 aheadOn m n = reduced (meanExact m n -ℤ olderExact m n) (wholeCircle m)
 
 -- of two longitudes on a circle, the first of which is so far ahead: the short way round
-abbrev pub shortWay : ℕ → ℕ → ℕ
-shortWay whole ahead = min ahead (whole - ahead)
+abbrev pub shorterWay : ℕ → ℕ → ℕ
+shorterWay whole ahead = min ahead (whole - ahead)
 
 unfoldable pub distanceOn : OlderMotion → ℕ → ℕ
-distanceOn m n = shortWay (wholeCircle m) (aheadOn m n)
+distanceOn m n = shorterWay (wholeCircle m) (aheadOn m n)
 
 -- the largest of the days' values
-unfoldable pub largest : (ℕ → ℕ) → List ℕ → ℕ
-largest f [] = 0
-largest f (d ∷ ds) = max (f d) (largest f ds)
+unfoldable pub largestOver : (ℕ → ℕ) → List ℕ → ℕ
+largestOver f [] = 0
+largestOver f (d ∷ ds) = max (f d) (largestOver f ds)
 
 -- the first of the days that has the value x
 unfoldable pub firstWith : (ℕ → ℕ) → ℕ → List ℕ → ℕ

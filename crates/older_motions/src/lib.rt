@@ -6,7 +6,7 @@ use longitudes::Motion;
 ghost use mathlib.Core.Path.{_≡_};
 ghost use Prim.Native.Nat.{_+_, _-_, _%_, _≤_, _<_};
 ghost use Rattle.days.specs.Days.{lastDay};
-ghost use Rattle.older_motions.specs.OlderMotions.{divisorOf, wholeCircle, aheadOn, shortWay};
+ghost use Rattle.older_motions.specs.OlderMotions.{divisorOf, wholeCircle, aheadOn, shorterWay};
 ghost use Rattle.older_motions.specs.Drifts.{motionOf, Sizes, Scans, farthestOver, noDrifts, driftsOver};
 
 // The largest distance over a span, as a fraction of a second of arc, and the first day that has it.
@@ -124,7 +124,7 @@ fn scan_next(motion: CodedMotion, scan: Scan, gain: u64, next: u32) -> Scan
 
 fn short_way(ahead: u64, circle: u64) -> u64
     requires { ⌜ ahead < circle ⌝ }
-    ensures { λ r. ⌜ r ≡ shortWay circle ahead ⌝ }
+    ensures { λ r. ⌜ r ≡ shorterWay circle ahead ⌝ }
 {
     let back = circle - ahead;
     if ahead <= back { ahead } else { back }

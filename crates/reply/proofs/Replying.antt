@@ -10,10 +10,11 @@ use Rattle.messages.specs.Messages.{faultLine, unreadablePage}
 use Rattle.question.specs.declared.Question.{Question}
 use Rattle.question.specs.Questions.{questionRead}
 use Rattle.text.specs.declared.Line.{Line}
+use Rattle.text.specs.Inputs.{tooLong}
 use Rattle.text.specs.Lines.{emptyLine, withBytes, Holds, refusalLine}
 use Rattle.text.proofs.Holding.{holds}
 use Rattle.reply.specs.declared.Reply.{Reply}
-use Rattle.reply.specs.Replies.{tooLong, printedOf, saidOf, printedFor, saidFor, Replied}
+use Rattle.reply.specs.Replies.{printedOf, saidOf, printedFor, saidFor, Replied}
 
 -- an empty line holds nothing
 nothing : (l : Line) → l ≡ emptyLine → Holds l []

@@ -10,12 +10,9 @@ use Rattle.explanation.specs.Explanations.{explanationOf}
 use Rattle.messages.specs.Messages.{faultLine, unreadablePage}
 use Rattle.question.specs.declared.Question.{Question}
 use Rattle.question.specs.Questions.{questionRead}
+use Rattle.text.specs.Inputs.{tooLong}
 use Rattle.text.specs.Lines.{Holds, refusalLine}
 use Rattle.reply.specs.declared.Reply.{Reply}
-
--- a text has fewer bytes
-abbrev pub tooLong : ℕ
-tooLong = 524288
 
 -- for what was read: the line that says why, or the refusal; and with a refusal which line is at fault
 unfoldable pub printedOf : Question → List ℕ

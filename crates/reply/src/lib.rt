@@ -2,11 +2,9 @@
 use days::refusal;
 use question::Question;
 use text::Line;
+use text::TOO_LONG;
 ghost use Prim.Native.Nat.{_<_};
 ghost use Rattle.reply.specs.Replies.{printedOf, saidOf, printedFor, saidFor, Replied};
-
-// A text has fewer bytes, as a page for `find` has.
-pub const TOO_LONG: usize = 524288;
 
 // The line for standard output, and the one for standard error, which is empty where nothing is at fault.
 pub struct Reply {
@@ -30,7 +28,7 @@ fn to_question(read: Question) -> Reply
     Reply { printed, said }
 }
 
-// The reply to an input. One that fills the buffer is longer, or could not be read to its end.
+// The reply to an input.
 pub fn to_input(input: &[u8]) -> Reply
     ensures { λ r. ⌜ Replied (printedFor (now (input .entry))) (saidFor (now (input .entry))) r ⌝ }
 {

@@ -22,7 +22,7 @@ use Rattle.text.proofs.Lines.{with-byte-is, with-bytes-none, with-bytes-append}
 use Rattle.text.proofs.Printing.{digits-length}
 use Rattle.zodiac.specs.declared.Listing.{Listing}
 use Rattle.zodiac.specs.Zodiac.{signAt, signOf, signOn, listingOf, entriesAfter}
-use Rattle.sign_sheet.specs.SignSheets.{signHeading, signLine, listingOn, listOn, listingFor, listFor, listedLine, lineOf}
+use Rattle.sign_sheet.specs.SignSheets.{signHeading, signLine, listingOn, listOn, listingFor, listFor, listedLine, signSheetLine}
 
 -- ---- the span's refusal decides what is listed
 module _ (s : Span) where
@@ -58,26 +58,26 @@ module _ (s : Span) (input list : List ℕ) (e : s ≡ spanInput input) where
   all-listed r found after ef ea = rw (sym e) (ef ∙ sym (span-listed s (capacity list) r), ea ∙ sym (list-filled s list r))
 
 -- ---- which line is meant
-pub first-refused : (m : Listing) (list : List ℕ) (k : ℕ) → (m .refusal ≡ 0 → ⊥) → k ≡ 0 → lineOf m list k ≡ refusalLine (m .refusal)
-unfolding lineOf
+pub first-refused : (m : Listing) (list : List ℕ) (k : ℕ) → (m .refusal ≡ 0 → ⊥) → k ≡ 0 → signSheetLine m list k ≡ refusalLine (m .refusal)
+unfolding signSheetLine
 first-refused m list k r h = rw (h, ne-eqb (m .refusal) 0 r)
 
-pub rest-refused : (m : Listing) (list : List ℕ) (k : ℕ) → (m .refusal ≡ 0 → ⊥) → (k ≡ 0 → ⊥) → lineOf m list k ≡ []
-unfolding lineOf
+pub rest-refused : (m : Listing) (list : List ℕ) (k : ℕ) → (m .refusal ≡ 0 → ⊥) → (k ≡ 0 → ⊥) → signSheetLine m list k ≡ []
+unfolding signSheetLine
 rest-refused m list zero r h = absurd (h refl)
 rest-refused m list (suc k) r h = rw (ne-eqb (m .refusal) 0 r)
 
-pub first-is-heading : (m : Listing) (list : List ℕ) (k : ℕ) → m .refusal ≡ 0 → k ≡ 0 → lineOf m list k ≡ signHeading
-unfolding lineOf
+pub first-is-heading : (m : Listing) (list : List ℕ) (k : ℕ) → m .refusal ≡ 0 → k ≡ 0 → signSheetLine m list k ≡ signHeading
+unfolding signSheetLine
 first-is-heading m list k r h = rw (h, eq-eqb (m .refusal) 0 r)
 
-pub none-behind : (m : Listing) (list : List ℕ) (k : ℕ) → m .refusal ≡ 0 → m .length < k → lineOf m list k ≡ []
-unfolding lineOf
+pub none-behind : (m : Listing) (list : List ℕ) (k : ℕ) → m .refusal ≡ 0 → m .length < k → signSheetLine m list k ≡ []
+unfolding signSheetLine
 none-behind m list zero r l = absurd (omega arith)
 none-behind m list (suc k) r l = rw (eq-eqb (m .refusal) 0 r, le-ltb k (m .length) (omega arith))
 
-pub line-of-entry : (m : Listing) (list : List ℕ) (k : ℕ) → m .refusal ≡ 0 → (k ≡ 0 → ⊥) → k ≤ m .length → lineOf m list k ≡ listedLine (entryAt list (k - 1))
-unfolding lineOf
+pub line-of-entry : (m : Listing) (list : List ℕ) (k : ℕ) → m .refusal ≡ 0 → (k ≡ 0 → ⊥) → k ≤ m .length → signSheetLine m list k ≡ listedLine (entryAt list (k - 1))
+unfolding signSheetLine
 line-of-entry m list zero r h l = absurd (h refl)
 line-of-entry m list (suc k) r h l =
     let back : suc k - 1 ≡ k = omega arith in

@@ -19,18 +19,18 @@ use Rattle.zodiac.specs.declared.Listing.{Listing}
 use Rattle.zodiac.specs.Zodiac.{signEntries, listingOf, entriesAfter}
 use Rattle.zodiac.proofs.Answers.{all-written}
 use Rattle.zodiac.proofs.Laws.{entered-only, entries-few, entered-read}
-use Rattle.sign_sheet.specs.SignSheets.{signHeading, signLine, signLines, signSheet, printedFor, mostEntries, listingOn, listOn, listingFor, listFor, listedLine, lineOf}
+use Rattle.sign_sheet.specs.SignSheets.{signHeading, signLine, signLines, signSheet, signsPrinted, mostEntries, listingOn, listOn, listingFor, listFor, listedLine, signSheetLine}
 use Rattle.sign_sheet.proofs.Lines.{span-refused, list-left, span-listed, list-filled, first-refused, first-is-heading, line-of-entry, day-due}
 
 -- n lines from line k on
 unfoldable pub linesFrom : Listing → List ℕ → ℕ → ℕ → List ℕ
 linesFrom m list k zero = []
-linesFrom m list k (suc n) = lineOf m list k ++ linesFrom m list (suc k) n
+linesFrom m list k (suc n) = signSheetLine m list k ++ linesFrom m list (suc k) n
 
 -- the lines from line k on, where each is the line of the day at its place
 lines-of :
     (m : Listing) (list days : List ℕ) (k : ℕ) →
-    ((i : ℕ) → i < length days → lineOf m list (k + i) ≡ signLine (getD days i 0)) →
+    ((i : ℕ) → i < length days → signSheetLine m list (k + i) ≡ signLine (getD days i 0)) →
     linesFrom m list k (length days) ≡ signLines days
 unfolding linesFrom signLines
 lines-of m list [] k each = refl
@@ -48,7 +48,7 @@ module _ (first last : ℕ) (o : Ordered first last) (list : List ℕ) (room : m
   abbrev listing : Listing
   listing = record { refusal = 0; length = length days; examined = 0 }
 
-  entry : (i : ℕ) → i < length days → lineOf listing (withEntries days list) (1 + i) ≡ signLine (getD days i 0)
+  entry : (i : ℕ) → i < length days → signSheetLine listing (withEntries days list) (1 + i) ≡ signLine (getD days i 0)
   entry i h =
       let read = entered-read first last (o .ordered) list i (o .ends) fits h in
       let day = entered-only first last _ (o .ordered) (has-at i days h) .to-last in
@@ -87,6 +87,6 @@ span-together s ordered list room = go (eqb (s .refusal) 0) refl
 pub sheet-together :
     (input list : List ℕ) →
     mostEntries ≤ capacity list →
-    linesFrom (listingFor input (capacity list)) (listFor input list) 0 (suc (listingFor input (capacity list) .length)) ≡ printedFor input
-unfolding printedFor
+    linesFrom (listingFor input (capacity list)) (listFor input list) 0 (suc (listingFor input (capacity list) .length)) ≡ signsPrinted input
+unfolding signsPrinted
 sheet-together input list room = span-together (spanInput input) (accepted-span input) list room

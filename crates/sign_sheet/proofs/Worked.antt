@@ -20,16 +20,16 @@ use Rattle.text.specs.Lines.{spaced, refusalLine}
 use Rattle.values.specs.Values.{threeRead, numberOr, dateRead, dayRead}
 use Rattle.words.specs.Words.{isSeparator, runLength, upTo, afterFirst, trimmed, afterWords, sameBytes, placeIn, nameAt}
 use Rattle.zodiac.specs.Zodiac.{entersOn, signEntries}
-use Rattle.sign_sheet.specs.SignSheets.{signHeading, signLine, signLines, signSheet, printedFor}
+use Rattle.sign_sheet.specs.SignSheets.{signHeading, signLine, signLines, signSheet, signsPrinted}
 
 -- the first cycle turns on day 4016, between two entries
 pub worked :
-    printedFor (ascii "0 80\n")
-    ∷ printedFor (ascii "3990 4030 # a cycle turns\n")
-    ∷ printedFor (ascii "11 40\n")
-    ∷ printedFor (ascii "9 5\n")
-    ∷ printedFor (ascii "0 401600\n")
-    ∷ printedFor (ascii "0 80")
+    signsPrinted (ascii "0 80\n")
+    ∷ signsPrinted (ascii "3990 4030 # a cycle turns\n")
+    ∷ signsPrinted (ascii "11 40\n")
+    ∷ signsPrinted (ascii "9 5\n")
+    ∷ signsPrinted (ascii "0 401600\n")
+    ∷ signsPrinted (ascii "0 80")
     ∷ []
     ≡ ascii "day date weekday sign\n11 1520-3-30 friday 0\n41 1520-4-29 sunday 1\n72 1520-5-30 wednesday 2\n"
     ∷ ascii "day date weekday sign\n3998 1531-2-28 tuesday 11\n4029 1531-3-31 friday 0\n"
@@ -38,5 +38,5 @@ pub worked :
     ∷ ascii "refused 2\n"
     ∷ ascii "refused 3\n"
     ∷ []
-unfolding isSeparator runLength upTo afterFirst trimmed afterWords sameBytes placeIn nameAt isDigit allDigits withDigit valueOf isNumber numberRead digitsWithin digitsOf spaced refusalLine threeRead numberOr dateRead dayRead isEdition askedInRange weekdaysInRange arcInRange bodyArcsInRange arcsInRange conditionsInRange spanRefusal dayOf refusalOf withCondition rankOf ranksBefore firstRefusal firstValue secondValue numbersRead mostValues valuesRead conditionRead wordsRead lineRead spanLine isOneLine spanRead spanInput leap monthDays sameDate next dateOn dateOfDay dateBytes dayBytes namedDayBytes daysFrom filtered floorOver reduced table meanLongitude longitudeAt entersOn signEntries signHeading signLine signLines signSheet printedFor
+unfolding isSeparator runLength upTo afterFirst trimmed afterWords sameBytes placeIn nameAt isDigit allDigits withDigit valueOf isNumber numberRead digitsWithin digitsOf spaced refusalLine threeRead numberOr dateRead dayRead isEdition askedInRange weekdaysInRange arcInRange bodyArcsInRange arcsInRange conditionsInRange spanRefusal dayOf refusalOf withCondition rankOf ranksBefore firstRefusal firstValue secondValue numbersRead mostValues valuesRead conditionRead wordsRead lineRead spanLine isOneLine spanRead spanInput leap monthDays sameDate next dateOn dateOfDay dateBytes dayBytes namedDayBytes daysFrom filtered floorOver reduced table meanLongitude longitudeAt entersOn signEntries signHeading signLine signLines signSheet signsPrinted
 worked = refl

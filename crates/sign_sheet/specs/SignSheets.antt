@@ -32,8 +32,8 @@ unfoldable pub signSheet : Span → List ℕ
 signSheet s = cond (eqb (s .refusal) accepted) (signHeading ++ signLines (signEntries (s .first) (s .last))) (refusalLine (s .refusal))
 
 -- ALL THAT IS PRINTED for an input
-unfoldable pub printedFor : List ℕ → List ℕ
-printedFor input = signSheet (spanInput input)
+unfoldable pub signsPrinted : List ℕ → List ℕ
+signsPrinted input = signSheet (spanInput input)
 
 -- the entries of a span that has been read, for a list of so many entries, and the list after; the span's refusal leaves it as it was
 unfoldable pub listingOn : Span → ℕ → Listing
@@ -56,7 +56,7 @@ listedLine due = cond (eqb (due .refusal) accepted && leb (due .number) lastDay)
 abbrev pub mostEntries : ℕ
 mostEntries = 13387
 
--- line k of what is printed, counted from 0; behind the last one nothing. The law `sheet-together`: with a list of `mostEntries` all of them are `printedFor`
-unfoldable pub lineOf : Listing → List ℕ → ℕ → List ℕ
-lineOf m list zero = cond (eqb (m .refusal) accepted) signHeading (refusalLine (m .refusal))
-lineOf m list (suc k) = cond (eqb (m .refusal) accepted && ltb k (m .length)) (listedLine (entryAt list k)) []
+-- line k of what is printed, counted from 0; behind the last one nothing. The law `sheet-together`: with a list of `mostEntries` all of them are `signsPrinted`
+unfoldable pub signSheetLine : Listing → List ℕ → ℕ → List ℕ
+signSheetLine m list zero = cond (eqb (m .refusal) accepted) signHeading (refusalLine (m .refusal))
+signSheetLine m list (suc k) = cond (eqb (m .refusal) accepted && ltb k (m .length)) (listedLine (entryAt list k)) []

@@ -8,7 +8,7 @@ ghost use Prim.Native.Nat.{_≤_};
 ghost use Rattle.days.specs.Days.{lastDay};
 ghost use Rattle.entries.specs.Entries.{capacity, entryAt};
 ghost use Rattle.text.specs.Lines.{Holds};
-ghost use Rattle.sign_sheet.specs.SignSheets.{signHeading, signLine, listedLine, lineOf, listingFor, listFor};
+ghost use Rattle.sign_sheet.specs.SignSheets.{signHeading, signLine, listedLine, signSheetLine, listingFor, listFor};
 
 // The most entries that a span has: one in thirty days, and one more.
 pub const MOST_ENTRIES: usize = 13387;
@@ -62,7 +62,7 @@ fn listed_line(list: &[u8], index: usize) -> Line
 
 // One of the lines that are printed for a listing, counted from 0; behind the last one nothing.
 pub fn line(listing: Listing, list: &[u8], index: usize) -> Line
-    ensures { λ r. ⌜ Holds r (lineOf listing (now (list .entry)) index) ⌝ }
+    ensures { λ r. ⌜ Holds r (signSheetLine listing (now (list .entry)) index) ⌝ }
 {
     if listing.refusal != refusal::NONE {
         if index == 0 {

@@ -15,7 +15,7 @@ fn print_signs(input: &[u8]) {
 }
 
 fn main() {
-    let mut buffer = [0u8; span_line::TOO_LONG];
+    let mut buffer = [0u8; text::TOO_LONG];
     let n = input::read_input(&mut buffer);
     print_signs(&buffer[..n]);
 }

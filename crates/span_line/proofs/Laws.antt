@@ -17,13 +17,14 @@ use Rattle.panchanga.specs.TrueLongitudes.{isEdition}
 use Rattle.query.specs.Conditions.{askedInRange, weekdaysInRange, arcInRange, bodyArcsInRange, arcsInRange, conditionsInRange}
 use Rattle.query.specs.Query.{refusalOf}
 use Rattle.text.specs.Ascii.{ascii}
+use Rattle.text.specs.Inputs.{tooLong}
 use Rattle.text.specs.Lines.{newline}
 use Rattle.values.specs.Values.{dayRead}
 use Rattle.values.proofs.Refusals.{either}
 use Rattle.words.specs.Words.{hash, isSeparator, runLength, upTo, afterFirst, trimmed, firstWord, afterWord, afterWords, sameBytes, placeIn}
 use Rattle.words.proofs.Runs.{run-le}
 use Rattle.span_line.specs.declared.Span.{Span}
-use Rattle.span_line.specs.SpanLine.{theSpan, noSpan, bothDays, spanLine, isOneLine, spanRead, tooLong, spanInput}
+use Rattle.span_line.specs.SpanLine.{theSpan, noSpan, bothDays, spanLine, isOneLine, spanRead, spanInput}
 
 -- ---- the two days
 module _ (a b : NumberAnswer) (r : ℕ) (e : r ≡ firstRefusal (a .refusal) (b .refusal)) where

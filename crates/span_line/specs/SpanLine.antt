@@ -10,6 +10,7 @@ use Rattle.days.specs.Days.{spanRefusal}
 use Rattle.days.specs.Refusals.{accepted, badInput}
 use Rattle.page.specs.Page.{firstRefusal, lineRead}
 use Rattle.text.specs.Ascii.{ascii}
+use Rattle.text.specs.Inputs.{tooLong}
 use Rattle.text.specs.Lines.{newline}
 use Rattle.words.specs.Words.{runLength, upTo}
 use Rattle.span_line.specs.declared.Span.{Span}
@@ -41,10 +42,6 @@ isOneLine text = eqb (runLength false newline text + 1) (length text)
 -- WHAT A TEXT MEANS
 unfoldable pub spanRead : List ℕ → Span
 spanRead text = cond (isOneLine text) (spanLine (upTo newline text)) (noSpan badInput)
-
--- an input has fewer bytes
-abbrev pub tooLong : ℕ
-tooLong = 524288
 
 -- what a program's input means
 unfoldable pub spanInput : List ℕ → Span

@@ -1,6 +1,7 @@
 // A span of days as a line of text: its two days, as a page has them behind the word `span`.
 use days::NumberAnswer;
 use days::refusal;
+use text::TOO_LONG;
 use values::day;
 use words::after_word;
 use words::first_word;
@@ -8,9 +9,6 @@ use words::run_length;
 use words::up_to;
 ghost use mathlib.Core.Path.{_≡_};
 ghost use Rattle.span_line.specs.SpanLine.{noSpan, bothDays, spanLine, spanRead, spanInput};
-
-// An input has fewer bytes, as a page for `find` has.
-pub const TOO_LONG: usize = 524288;
 
 // A line that has been read: the refusal's number, or 0, and the first and the last day. A refusal has days of zero.
 pub struct Span {
@@ -72,7 +70,7 @@ pub fn read(text: &[u8]) -> Span
     read_days(up_to(text, b'\n'))
 }
 
-// The span that a program's input means. One that fills the buffer is longer, or could not be read to its end.
+// The span that a program's input means.
 pub fn of_input(input: &[u8]) -> Span
     ensures { λ r. ⌜ r ≡ spanInput (now (input .entry)) ⌝ }
 {

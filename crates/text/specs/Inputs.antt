@@ -1,4 +1,4 @@
--- A day's number as a program reads it: 1 to 6 decimal digits and one newline, and a day that there is.
+-- A day's number as a program reads it: 1 to 6 decimal digits and one newline, and a day that there is. And how long a text may be that a program reads.
 -- Assumes nothing.
 use mathlib.Core.Bool.{Bool, cond, _&&_}
 use mathlib.Core.List.{List}
@@ -10,6 +10,10 @@ use Rattle.days.specs.Refusals.{accepted, outOfRange, badInput}
 use Rattle.days.specs.Days.{lastDay, theNumber, noNumber}
 use Rattle.text.specs.Decimal.{numberRead}
 use Rattle.text.specs.Lines.{newline}
+
+-- a text that a program reads whole has fewer bytes
+abbrev pub tooLong : ℕ
+tooLong = 524288
 
 -- at most seven bytes, the last of them a newline
 unfoldable pub isLine : List ℕ → Bool

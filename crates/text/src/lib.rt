@@ -9,6 +9,9 @@ ghost use Rattle.text.specs.Decimal.{numberRead, digitsOf};
 ghost use Rattle.text.specs.Inputs.{inputRead, dayInput};
 ghost use Rattle.text.specs.Lines.{emptyLine, withByte, withBytes, spaced, Holds, refusalLine};
 
+// A text that a program reads whole has fewer bytes: one that fills a buffer of so many is longer, or could not be read to its end.
+pub const TOO_LONG: usize = 524288;
+
 // The most digits of a day's number.
 const DAY_DIGITS: usize = 6;
 
