@@ -33,3 +33,7 @@ noExtraMonth = 8
 -- an edition other than 1 or 2
 abbrev pub badEdition : ℕ
 badEdition = 14
+
+-- a body's number above 8
+abbrev pub noSuchBody : ℕ
+noSuchBody = 16

@@ -18,3 +18,5 @@ pub const LIST_TOO_SHORT: u32 = 7;
 pub const NO_EXTRA_MONTH: u32 = 8;
 
 pub const BAD_EDITION: u32 = 14;
+
+pub const NO_SUCH_BODY: u32 = 16;

@@ -1,0 +1,4 @@
+pub mod Once
+pub mod Ranges
+pub mod ShortWay
+pub mod Laws

@@ -1,0 +1,3 @@
+pub mod Degrees
+pub mod Orders
+pub mod Ranges

@@ -1,0 +1,77 @@
+-- Orders for the arms: what an order does to an arm, which order places or follows a body, and the numbers of each case.
+-- Assumes nothing.
+use mathlib.Core.Bool.{false, cond}
+use Prim.Native.Nat.{ℕ, _+_}
+use lib.Dec.{leb, ltb, eqb}
+use lib.IntN.{pos}
+use lib.Ieee.{Float, fin}
+use Rattle.days.specs.Days.{lastDay, pairAt}
+use Rattle.days.specs.Refusals.{accepted, outOfRange, noSuchBody}
+use Rattle.longitudes.specs.Longitudes.{longitudeAt}
+use Rattle.arms.specs.declared.Arm.{Arm}
+use Rattle.arms.specs.declared.Order.{Order}
+use Rattle.arms.specs.declared.Order.the-variants.{Hold, Go, Run}
+use Rattle.arms.specs.declared.OrderAnswer.{OrderAnswer}
+use Rattle.arms.specs.Degrees.{degreesOf, shortWay}
+
+-- 0 degrees, the positive zero
+abbrev pub noDegrees : Float
+noDegrees = fin false 0 (pos 0)
+
+-- holding leaves the angle and makes the rate 0; going sets the angle and makes the rate 0; running sets the rate alone
+unfoldable pub carriedOut : Arm → Order → Arm
+carriedOut arm Hold = record { angle = arm .angle; rate = noDegrees }
+carriedOut arm (Go angle) = record { angle = angle; rate = noDegrees }
+carriedOut arm (Run rate) = record { angle = arm .angle; rate = rate }
+
+-- the number of each case, and its value
+unfoldable pub orderNumber : Order → ℕ
+orderNumber Hold = 0
+orderNumber (Go angle) = 1
+orderNumber (Run rate) = 2
+
+unfoldable pub orderValue : Order → Float
+orderValue Hold = noDegrees
+orderValue (Go angle) = angle
+orderValue (Run rate) = rate
+
+-- an answer in numbers: the refusal or 0, and the order's two
+pub record Numbers : Type 0 where
+  pub refusal : ℕ
+  pub order : ℕ
+  pub value : Float
+
+abbrev pub numbersOf : OrderAnswer → Numbers
+numbersOf a = record { refusal = a .refusal; order = orderNumber (a .order); value = orderValue (a .order) }
+
+-- 2 for the day, then 16 for a body above 8, or 0
+unfoldable pub refusalOn : ℕ → ℕ → ℕ
+refusalOn day body = cond (leb day lastDay) (cond (leb body 8) accepted noSuchBody) outOfRange
+
+-- a body's whole seconds on a day
+abbrev pub secondsOn : ℕ → ℕ → ℕ
+secondsOn day body = longitudeAt body (pairAt day)
+
+abbrev pub angleOn : ℕ → ℕ → Float
+angleOn day body = degreesOf (pos (secondsOn day body))
+
+-- the short way to the next day's seconds
+abbrev pub rateOn : ℕ → ℕ → Float
+rateOn day body = degreesOf (shortWay (secondsOn day body) (secondsOn (day + 1) body))
+
+abbrev pub held : ℕ → Numbers
+held refusal = record { refusal = refusal; order = 0; value = noDegrees }
+
+-- TO PLACE a body on a day is to go to its angle; where that is refused, to hold
+unfoldable pub placeOf : ℕ → ℕ → Numbers
+placeOf day body =
+    cond (eqb (refusalOn day body) accepted)
+    (record { refusal = accepted; order = 1; value = angleOn day body })
+    (held (refusalOn day body))
+
+-- TO FOLLOW it is to run at its rate, and on the last day to hold; where that is refused, to hold
+unfoldable pub followOf : ℕ → ℕ → Numbers
+followOf day body =
+    cond (eqb (refusalOn day body) accepted)
+    (cond (ltb day lastDay) (record { refusal = accepted; order = 2; value = rateOn day body }) (held accepted))
+    (held (refusalOn day body))

@@ -1,0 +1,37 @@
+-- Between what an angle and a rate lie, and where an angle is exact, in the terms of the library of floats.
+-- Assumes nothing.
+use mathlib.Core.Bool.{Bool, true, false, not, _&&_}
+use mathlib.Core.Path.{_≡_}
+use Prim.Native.Nat.{ℕ, _%_}
+use lib.Dec.{T, eqb}
+use lib.IntN.{ℤ, pos, negℤ}
+use lib.Ieee.{Float, nan, inf, fin, binary64, ofInt, le, lt}
+use lib.Ieee.Exact.{HasValue}
+use Rattle.days.specs.Refusals.{accepted}
+use Rattle.arms.specs.Orders.{refusalOn, secondsOn}
+
+-- neither a NaN nor an infinity nor the negative zero
+unfoldable pub isProper : Float → Bool
+isProper nan = false
+isProper (inf negative) = false
+isProper (fin negative m e) = not (negative && eqb m 0)
+
+-- a whole number of degrees
+abbrev pub whole : ℤ → Float
+whole z = ofInt binary64 z
+
+-- at least 0 and below 360
+pub record IsAngle (x : Float) : Type 0 where
+  pub proper : T (isProper x)
+  pub least : T (le (whole (pos 0)) x)
+  pub most : T (lt x (whole (pos 360)))
+
+-- where the seconds are a multiple of 225, the angle is exactly their 3600th part
+abbrev pub ExactAngle : ℕ → ℕ → Float → Type 0
+ExactAngle day body x = refusalOn day body ≡ accepted → secondsOn day body % 225 ≡ 0 → HasValue x false (secondsOn day body) 3600
+
+-- at least −180 and below 180
+pub record IsRate (x : Float) : Type 0 where
+  pub proper : T (isProper x)
+  pub least : T (le (whole (negℤ (pos 180))) x)
+  pub most : T (lt x (whole (pos 180)))
