@@ -65,6 +65,18 @@ uint64_t bridge_drift_numerator(uint32_t first, uint32_t last, uint32_t body);
 static void drifts(uint32_t body, size_t unused) { (void)unused, sink += bridge_drift_numerator(0, DAYS - 1, body); }
 static void plain_drifts(uint32_t body, size_t unused) { (void)unused, sink += plain_drift(0, DAYS - 1, body).numerator; }
 
+/* An angle or a rate of each body on each day. */
+typedef double (*degrees)(uint32_t, uint32_t);
+
+static void all_bodies(degrees f) {
+    double sum = 0.0;
+    for (uint32_t day = 0; day < DAYS; day++)
+        for (uint32_t body = 0; body < 9; body++) sum += f(day, body);
+    sink += (uint64_t)sum;
+}
+static void angles(uint32_t plain, size_t unused) { (void)unused, all_bodies(plain ? plain_place_angle : graha_place_angle); }
+static void rates(uint32_t plain, size_t unused) { (void)unused, all_bodies(plain ? plain_follow_rate : graha_follow_rate); }
+
 typedef struct {
     const char *name;
     void (*search)(uint32_t, size_t);
@@ -117,6 +129,10 @@ static void *places(void *unused) {
             graha_true_mercury(7) + graha_true_jupiter(7) + graha_true_venus(7) + graha_true_saturn(7) + graha_tithi(7) + graha_nakshatra(7) + graha_yoga(7) + graha_karana(7);
     return unused;
 }
+static void *orders(void *unused) {
+    sink += graha_place_result(7, 5) + graha_follow_result(7, 5) + graha_follow_order(7, 5) + (uint64_t)(graha_place_angle(7, 5) + graha_follow_rate(7, 5));
+    return unused;
+}
 static void *calendar(void *unused) {
     sink += graha_date_result(1612, 5, 14) + graha_date_day(1612, 5, 14) + graha_day_result(7) + graha_day_year(7) + graha_day_month(7) +
             graha_day_of_month(7) + graha_day_cycle(7) + graha_day_within(7) + graha_day_weekday(7) + graha_pair_result(0, 7) + graha_pair_day(0, 7) +
@@ -155,8 +171,8 @@ int main(int count, char **word) {
         return 0;
     }
     if (count == 2 && !strcmp(word[1], "stack")) {
-        size_t base = depth(nothing), a = depth(search_all) - base, b = depth(places) - base, c = depth(calendar) - base;
-        printf("deepest stack: search %zu, places %zu, calendar %zu bytes (at most 2048)\n", a, b, c);
+        size_t base = depth(nothing), a = depth(search_all) - base, b = depth(places) - base, c = depth(calendar) - base, d = depth(orders) - base;
+        printf("deepest stack: search %zu, places %zu, calendar %zu, orders %zu bytes (at most 2048)\n", a, b, c, d);
         return 0;
     }
     printf("%-46s %15s %15s %8s   %s\n", "whole span, Mondays", "proved", "plain C", "ratio", "to reach");
@@ -206,6 +222,14 @@ int main(int count, char **word) {
             puts("the two drifts differ");
             return 1;
         }
+    pair("nine arms placed", search_job(angles, 0, 0), search_job(angles, 1, 0), 1.1);
+    pair("nine arms followed", search_job(rates, 0, 0), search_job(rates, 1, 0), 1.1);
+    for (uint32_t day = 0; day < DAYS; day++)
+        for (uint32_t body = 0; body < 9; body++)
+            if (graha_place_angle(day, body) != plain_place_angle(day, body) || graha_follow_rate(day, body) != plain_follow_rate(day, body)) {
+                puts("the two arms differ");
+                return 1;
+            }
     if (memcmp(month, other_month, sizeof month)) {
         puts("the two months differ");
         return 1;

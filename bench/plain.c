@@ -87,6 +87,29 @@ uint32_t plain_yoga(uint32_t day) { return day > LAST ? 0 : (true_sun(day) + tru
 static inline uint32_t karana_of(uint32_t h) { return h == 0 ? 11 : h <= 56 ? (h - 1) % 7 + 1 : h - 49; }
 uint32_t plain_karana(uint32_t day) { return day > LAST ? 0 : karana_of(past(true_moon(day), true_sun(day)) / 21600); }
 
+static inline uint32_t body_mean(uint32_t body, uint32_t day) {
+    switch (body) {
+    case 0: return sun(day);
+    case 1: return moon(day);
+    case 2: return apogee(day);
+    case 3: return mean(day, 99480, 766200, 73861124, 57);
+    case 4: return mean(day, 1105680, 199920, 2616600, 1387);
+    case 5: return mean(day, 970380, 444420, 1487490, 133);
+    case 6: return mean(day, 764160, 94680, 2094, 7);
+    case 7: return mean(day, 828540, 158520, 401760, 181);
+    default: return mean(day, 1027260, 812520, 1565, 13);
+    }
+}
+
+double plain_place_angle(uint32_t day, uint32_t body) { return day > LAST || body > 8 ? 0.0 : body_mean(body, day) / 3600.0; }
+double plain_follow_rate(uint32_t day, uint32_t body) {
+    if (day >= LAST || body > 8) return 0.0;
+    int32_t way = (int32_t)body_mean(body, day + 1) - (int32_t)body_mean(body, day);
+    if (way >= 648000) way -= 1296000;
+    if (way < -648000) way += 1296000;
+    return way / 3600.0;
+}
+
 uint32_t plain_fill_records(uint32_t edition, plain_record *records, uint64_t len) {
     if (edition != 1 && edition != 2) return 14;
     for (uint64_t i = 0; i < len; i++)

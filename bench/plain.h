@@ -29,6 +29,8 @@ uint32_t plain_true_mercury(uint32_t day);
 uint32_t plain_true_jupiter(uint32_t day);
 uint32_t plain_true_venus(uint32_t day);
 uint32_t plain_true_saturn(uint32_t day);
+double plain_place_angle(uint32_t day, uint32_t body);
+double plain_follow_rate(uint32_t day, uint32_t body);
 uint32_t plain_true_sun(uint32_t day);
 uint32_t plain_true_moon(uint32_t day);
 uint32_t plain_tithi(uint32_t day);

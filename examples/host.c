@@ -1,4 +1,4 @@
-/* A small host program: it dates a day, prints its places, sets the nine arms of a planet table, dates a Saka lunar date, and looks for the Mondays with the Sun in the first degree. */
+/* A small host program: it dates a day, prints its places, sets the nine arms of a planet table, drives nine for three days, dates a Saka lunar date, and looks for the Mondays with the Sun in the first degree. */
 #include <stdio.h>
 #include <stdlib.h>
 
@@ -45,6 +45,33 @@ static void print_arms(uint32_t day)
     }
 }
 
+/* What a board holds of its arm: degrees, and degrees a day. */
+typedef struct {
+    double angle, rate;
+} arm;
+
+/* Drives nine arms for three days, one for each body at its mean place: each day an arm goes to its angle, and then runs until the next, or holds. */
+static int drive_arms(uint32_t first)
+{
+    for (uint32_t body = 0; body < 9; body++) {
+        arm driven = {0.0, 0.0};
+        printf("  arm of body %u:", (unsigned)body);
+        for (uint32_t day = first; day < first + 3; day++) {
+            if (graha_place_result(day, body) != GRAHA_ACCEPTED || graha_follow_result(day, body) != GRAHA_ACCEPTED)
+                return 0;
+            driven.angle = graha_place_angle(day, body);
+            driven.rate = graha_follow_rate(day, body);
+            printf("%s at %.4f, ", day == first ? "" : ";", driven.angle);
+            if (graha_follow_order(day, body) == GRAHA_RUN)
+                printf("run at %+.4f", driven.rate);
+            else
+                printf("hold");
+        }
+        printf("\n");
+    }
+    return 1;
+}
+
 /* An entry of the list: four bytes, low byte first. */
 static uint32_t day_at(const uint8_t *list, size_t entry)
 {
@@ -68,6 +95,11 @@ int main(void)
     print_date(day);
     print_places(day);
     print_arms(day);
+    printf("the last three days:\n");
+    if (!drive_arms(LAST - 2)) {
+        fprintf(stderr, "host: an order is refused\n");
+        return 1;
+    }
 
     /* The first day of Saka 1555, a Friday. That year had an extra month, which was still to come. */
     result = graha_saka_pending_result(1555, 0, 0, 4, 1);

@@ -1,4 +1,4 @@
-/* The calls of libhost.a: days, places and searches after the Grahalaghava, as plain numbers.
+/* The calls of libhost.a: days, places, orders for the arms of a table and searches after the Grahalaghava, as plain numbers.
  *
  * Days are 0 to 401599, from 19 March 1520 (Julian) to 13 October 2619 (Gregorian). Places are mean sunrise's at Ujjain, in whole
  * seconds of arc from 0 to 1295999. A call hands back one number, so each number of an answer has a call of its own; a result
@@ -26,7 +26,8 @@ enum {
     GRAHA_LAST_BEFORE_FIRST = 5, /* a span whose last day is before its first */
     GRAHA_BAD_CONDITION = 6,     /* a search's weekday, arc start or arc width */
     GRAHA_LIST_TOO_SHORT = 7,    /* more days than the list has entries */
-    GRAHA_NO_EXTRA_MONTH = 8     /* a Saka date's extra month is still to come, and none is reckoned */
+    GRAHA_NO_EXTRA_MONTH = 8,    /* a Saka date's extra month is still to come, and none is reckoned */
+    GRAHA_NO_SUCH_BODY = 16      /* a body above 8, of an order */
 };
 
 /* A civil date (year from 0 up, month 1 to 12, day from 1) to its day: Julian up to 4 October 1582, Gregorian from 15 October 1582.
@@ -101,6 +102,20 @@ uint32_t graha_nakshatra(uint32_t day);
 uint32_t graha_yoga(uint32_t day);
 /* Karana, 1 to 11: 1 to 7 in turn, and 8 to 11 fixed. */
 uint32_t graha_karana(uint32_t day);
+
+/* Orders for the arms of a table, whose boards take doubles. A body is 0 Sun, 1 Moon, 2 Moon's apogee, 3 Moon's node, 4 Mars, 5 Mercury's anomaly,
+ * 6 Jupiter, 7 Venus' anomaly or 8 Saturn, and stands at its mean place. Result 2: a day above 401599; 16: a body above 8. */
+enum { GRAHA_HOLD = 0, GRAHA_GO = 1, GRAHA_RUN = 2 };
+/* To place a body is to go to its angle: its seconds of arc divided by 3600, rounded once to the nearest double. At least 0.0 and below 360.0, and
+ * exact where the seconds are a multiple of 225; 0.0 where refused. */
+uint32_t graha_place_result(uint32_t day, uint32_t body);
+double graha_place_angle(uint32_t day, uint32_t body);
+/* To follow it is to run until the next day at its rate, in degrees a day: the short way to the next day's seconds, negative backwards (half a circle
+ * is backwards), divided and rounded alike; at least -180.0 and below 180.0. On the last day the order is to hold. The order is
+ * GRAHA_HOLD or GRAHA_RUN; the rate is 0.0 where the order is to hold, as it is where refused. No angle and no rate is -0.0, a NaN or an infinity. */
+uint32_t graha_follow_result(uint32_t day, uint32_t body);
+uint32_t graha_follow_order(uint32_t day, uint32_t body);
+double graha_follow_rate(uint32_t day, uint32_t body);
 
 /* Every day from first to last, both counted, that has the weekday and whose mean Sun is in the arc from sun_start (up to 1295999),
  * sun_width seconds wide (1 to 1296000). With result 0 the days stand in the list, earliest first, four bytes a day, low byte first, and
