@@ -14,7 +14,7 @@ use Rattle.arms.specs.Degrees.{degreesOf}
 use Rattle.arms.specs.Orders.{noDegrees, refusalOn, secondsOn, angleOn, rateOn, held, placeOf, followOf}
 use Rattle.arms.specs.Ranges.{IsAngle, ExactAngle, IsRate}
 use Rattle.arms.proofs.Ranges.{angle-range, exact, rate-range}
-use Rattle.arms.proofs.ShortWay.{within-half}
+use Rattle.arms.proofs.Motion.{day-way}
 
 pub day-refused : (day body : ℕ) → lastDay < day → refusalOn day body ≡ outOfRange
 unfolding refusalOn
@@ -80,5 +80,5 @@ go-angle day body = angle-range (secondsOn day body) (longitude-small body _)
 pub exact-angle : (day body : ℕ) → ExactAngle day body (angleOn day body)
 exact-angle day body r m = exact (secondsOn day body) (longitude-small body _) m
 
-pub run-rate : (day body : ℕ) → IsRate (rateOn day body)
-run-rate day body = rate-range _ (within-half (secondsOn day body) (secondsOn (day + 1) body))
+pub run-rate : (day body : ℕ) → day < lastDay → body ≤ 8 → IsRate (rateOn day body)
+run-rate day body h k = rate-range _ (day-way day body h k)

@@ -1,5 +1,6 @@
 pub mod Once
 pub mod Ranges
 pub mod ShortWay
+pub mod Motion
 pub mod Laws
 pub mod Worked

@@ -14,10 +14,10 @@ use lib.Ieee.{Float, nan, inf, fin, binary64, prec, low, emax, up, down, odd, un
 use lib.Ieee.Fits.{up-pos, down-pos, eq→eqb, and-i, and-l, core, round-is}
 use lib.Ieee.Exact.{HasValue, round-exact}
 use lib.Ieee.Order.{round-mono}
-use lib.Ieee.Positive.{num, den, positive, den-pos, le→cross, through, between}
+use lib.Ieee.Positive.{num, den, positive, den-pos, le→cross, le-trans-positive, through, between}
 use mir.Facts.{or-yes}
 use Rattle.arms.specs.Degrees.{degreesOf}
-use Rattle.arms.specs.Ranges.{isProper, whole, IsAngle, IsRate}
+use Rattle.arms.specs.Ranges.{isProper, whole, Between, IsAngle, IsRate}
 
 -- ---- floats above zero, and their negations
 
@@ -151,6 +151,15 @@ a-second-less-than-half : deg 647999 ≡ fin false 6333177202553069 (negsuc 44)
 unfolding round
 a-second-less-than-half = refl
 
+one-degree : deg 3600 ≡ fin false 1 (pos 0)
+unfolding round
+one-degree = refl
+
+-- the Moon's longest way
+longest : deg 47444 ≡ fin false 3709527443072323 (negsuc 47)
+unfolding round
+longest = refl
+
 above-zero : (n : ℕ) → 0 < n → n ≤ 1296000 → T (positive (deg n))
 above-zero n h k =
     between (deg 1) (deg n) (deg 1296000) (rw one-second tt) (rw whole-circle tt) (mono 1 n h) (mono n 1296000 k)
@@ -181,6 +190,14 @@ whole-180 : whole (pos 180) ≡ fin false 45 (pos 2)
 unfolding ofInt round
 whole-180 = refl
 
+whole-14 : whole (pos 14) ≡ fin false 7 (pos 1)
+unfolding ofInt round
+whole-14 = refl
+
+whole-1-back : whole (negℤ (pos 1)) ≡ neg (fin false 1 (pos 0))
+unfolding ofInt round neg
+whole-1-back = refl
+
 whole-180-back : whole (negℤ (pos 180)) ≡ neg (fin false 45 (pos 2))
 unfolding ofInt round neg
 whole-180-back = refl
@@ -205,30 +222,47 @@ angle-range (suc n) h =
       most = rw whole-360 (below (suc n) 1295999 (fin false 3166591044635707 (negsuc 42)) (fin false 45 (pos 3)) a-second-less tt tt (lit< tt) (omega arith) (omega arith) (lit≤ tt));
     }
 
--- the short ways: up to half a circle back, and less than that forwards
-abbrev pub WithinHalf : ℤ → Type 0
-WithinHalf (pos n) = n < 648000
-WithinHalf (negsuc n) = n < 648000
+-- a whole number of seconds from back backwards to forth forwards
+abbrev pub Within : ℕ → ℕ → ℤ → Type 0
+Within back forth (pos n) = n ≤ forth
+Within back forth (negsuc n) = n < back
 
--- ---- A RATE is at least −180 and below 180
-pub rate-range : (z : ℤ) → WithinHalf z → IsRate (degreesOf z)
-unfolding degreesOf
-rate-range (pos zero) h = record { proper = zero-proper; least = rw (no-second, whole-180-back) (zero-above (fin false 45 (pos 2)) tt); most = rw (no-second, whole-180) (zero-below (fin false 45 (pos 2)) tt) }
-rate-range (pos (suc n)) h =
-    let p = above-zero (suc n) (omega arith) (omega arith) in
-    record {
-      proper = proper (deg (suc n)) p;
-      least = rw whole-180-back (back-le (fin false 45 (pos 2)) (deg (suc n)) tt p);
-      most = rw whole-180 (below (suc n) 647999 (fin false 6333177202553069 (negsuc 44)) (fin false 45 (pos 2)) a-second-less-than-half tt tt (lit< tt) (omega arith) (omega arith) (lit≤ tt));
-    }
-rate-range (negsuc n) h =
-    let p = above-zero (suc n) (omega arith) (omega arith) in
-    rw (round-back (suc n) 3600)
-    (record {
-      proper = proper-back (deg (suc n)) p;
-      least = rw whole-180-back (turned (deg (suc n)) (fin false 45 (pos 2)) p tt (subst (λ (x : Float). T (le (deg (suc n)) x)) half-circle (mono (suc n) 648000 h)));
-      most = rw whole-180 (back-lt (deg (suc n)) (fin false 45 (pos 2)) p tt);
-    })
+-- such a number's degrees lie between −low and high where the ends' do
+module _ (back forth low high : ℕ) (lo hi y : Float)
+    (lo-is : whole (negℤ (pos low)) ≡ neg lo) (hi-is : whole (pos high) ≡ hi) (y-is : deg forth ≡ y)
+    (p : T (positive lo)) (q : T (positive hi)) (r : T (positive y))
+    (back-end : T (le (deg back) lo)) (forth-end : num y * den hi < num hi * den y)
+    (u : back ≤ 1296000) (v : forth ≤ 1296000) where
+  ends : (z : ℤ) → Within back forth z → Between (negℤ (pos low)) (pos high) (degreesOf z)
+  unfolding degreesOf
+  ends (pos zero) h = record { proper = zero-proper; least = rw (no-second, lo-is) (zero-above lo p); most = rw (no-second, hi-is) (zero-below hi q) }
+  ends (pos (suc n)) h =
+      let o = above-zero (suc n) (omega arith) (omega arith) in
+      record {
+        proper = proper (deg (suc n)) o;
+        least = rw lo-is (back-le lo (deg (suc n)) p o);
+        most = rw hi-is (below (suc n) forth y hi y-is r q forth-end (omega arith) h v);
+      }
+  ends (negsuc n) h =
+      let o = above-zero (suc n) (omega arith) (omega arith) in
+      rw (round-back (suc n) 3600)
+      (record {
+        proper = proper-back (deg (suc n)) o;
+        least = rw lo-is (turned (deg (suc n)) lo o p (le-trans-positive (deg (suc n)) (deg back) lo o (above-zero back (omega arith) u) p (mono (suc n) back h) back-end));
+        most = rw hi-is (back-lt (deg (suc n)) hi o q);
+      })
+
+-- ---- A SHORT WAY of any two longitudes is at least −180 degrees and below 180
+pub way-range : (z : ℤ) → Within 648000 647999 z → Between (negℤ (pos 180)) (pos 180) (degreesOf z)
+way-range =
+    ends 648000 647999 180 180 (fin false 45 (pos 2)) (fin false 45 (pos 2)) (fin false 6333177202553069 (negsuc 44)) whole-180-back whole-180 a-second-less-than-half tt tt tt
+    (subst (λ (x : Float). T (le (deg 648000) x)) half-circle (mono 648000 648000 (lit≤ tt))) (lit< tt) (lit≤ tt) (lit≤ tt)
+
+-- ---- A RATE, from 191 seconds back to 47444 forwards, is at least −1 and below 14
+pub rate-range : (z : ℤ) → Within 191 47444 z → IsRate (degreesOf z)
+rate-range =
+    ends 191 47444 1 14 (fin false 1 (pos 0)) (fin false 7 (pos 1)) (fin false 3709527443072323 (negsuc 47)) whole-1-back whole-14 longest tt tt tt
+    (subst (λ (x : Float). T (le (deg 191) x)) one-degree (mono 191 3600 (lit≤ tt))) (lit< tt) (lit≤ tt) (lit≤ tt)
 
 -- ---- AN ANGLE IS EXACT at a multiple of 225 seconds: a whole number of sixteenths of a degree
 pub exact : (n : ℕ) → n < 1296000 → n % 225 ≡ 0 → HasValue (degreesOf (pos n)) false n 3600

@@ -14,7 +14,7 @@ use mir.Facts.{toZ-pos}
 use Rattle.longitudes.specs.Longitudes.{circle, differenceOf}
 use Rattle.longitudes.proofs.Subtraction.{difference-small, is-small, difference-turned}
 use Rattle.arms.specs.Degrees.{half, shortWay}
-use Rattle.arms.proofs.Ranges.{WithinHalf}
+use Rattle.arms.proofs.Ranges.{Within}
 
 pub way-forwards : (from to x : ℕ) → x ≡ differenceOf to from → x < half → shortWay from to ≡ pos x
 unfolding shortWay
@@ -26,11 +26,11 @@ way-back from to x e h =
     let f : differenceOf from to ≡ suc (circle - suc x) = omega (arith, difference-turned x to from e (omega arith), is-small x to from e) in
     rw (sym e, le-ltb _ _ h, f)
 
-pub within-half : (from to : ℕ) → WithinHalf (shortWay from to)
+pub within-half : (from to : ℕ) → Within 648000 647999 (shortWay from to)
 within-half from to = go (decLt (differenceOf to from) half)
   where
-    go : Dec (differenceOf to from < half) → WithinHalf (shortWay from to)
-    go (yes h) = rw (way-forwards from to (differenceOf to from) refl h) h
+    go : Dec (differenceOf to from < half) → Within 648000 647999 (shortWay from to)
+    go (yes h) = rw (way-forwards from to (differenceOf to from) refl h) (omega arith)
     go (no h) = rw (way-back from to (differenceOf to from) refl (omega arith)) (omega (arith, difference-small to from))
 
 -- ---- the way forwards as a signed number, and a circle less
@@ -55,6 +55,9 @@ fits-back x h = subst (SFits w32) (sym (circle-less x h)) (record { sfits = lt-o
 pub way-fits : (from to : ℕ) → SFits w32 (shortWay from to)
 way-fits from to = go (shortWay from to) (within-half from to)
   where
-    go : (z : ℤ) → WithinHalf z → SFits w32 z
-    go (pos n) h = record { sfits = lt-of-lt-of-le h (lit≤ tt) }
+    forth : (n : ℕ) → n ≤ 647999 → n < 648000
+    forth n h = omega arith
+
+    go : (z : ℤ) → Within 648000 647999 z → SFits w32 z
+    go (pos n) h = record { sfits = lt-of-lt-of-le (forth n h) (lit≤ tt) }
     go (negsuc n) h = record { sfits = lt-of-lt-of-le h (lit≤ tt) }

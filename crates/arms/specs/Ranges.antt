@@ -20,18 +20,20 @@ isProper (fin negative m e) = not (negative && eqb m 0)
 abbrev pub whole : ℤ → Float
 whole z = ofInt binary64 z
 
--- at least 0 and below 360
-pub record IsAngle (x : Float) : Type 0 where
+-- at least low degrees and below high
+pub record Between (low high : ℤ) (x : Float) : Type 0 where
   pub proper : T (isProper x)
-  pub least : T (le (whole (pos 0)) x)
-  pub most : T (lt x (whole (pos 360)))
+  pub least : T (le (whole low) x)
+  pub most : T (lt x (whole high))
+
+-- at least 0 and below 360
+abbrev pub IsAngle : Float → Type 0
+IsAngle x = Between (pos 0) (pos 360) x
 
 -- where the seconds are a multiple of 225, the angle is exactly their 3600th part
 abbrev pub ExactAngle : ℕ → ℕ → Float → Type 0
 ExactAngle day body x = refusalOn day body ≡ accepted → secondsOn day body % 225 ≡ 0 → HasValue x false (secondsOn day body) 3600
 
--- at least −180 and below 180
-pub record IsRate (x : Float) : Type 0 where
-  pub proper : T (isProper x)
-  pub least : T (le (whole (negℤ (pos 180))) x)
-  pub most : T (lt x (whole (pos 180)))
+-- at least −1 and below 14 degrees a day
+abbrev pub IsRate : Float → Type 0
+IsRate x = Between (negℤ (pos 1)) (pos 14) x

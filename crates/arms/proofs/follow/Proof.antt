@@ -33,7 +33,7 @@ returns-3 c =
     let e = c .rate-on .ensures in
     let r = in-ranges _ _ (accepted (c .before .before)) in (
       rw (c .before .before .if1 .left, e) (sym (follow-runs _ _ (accepted (c .before .before)) (omega (arith, r .0, c .before .if2 .left)))),
-      subst IsRate (sym e) (run-rate _ _),
+      subst IsRate (sym e) (run-rate _ _ (omega (arith, r .0, c .before .if2 .left)) (r .1)),
     )
 
 pub follow-spec : {M : Type 1} → statement M
