@@ -111,7 +111,7 @@ enum { GRAHA_HOLD = 0, GRAHA_GO = 1, GRAHA_RUN = 2 };
 uint32_t graha_place_result(uint32_t day, uint32_t body);
 double graha_place_angle(uint32_t day, uint32_t body);
 /* To follow it is to run until the next day at its rate, in degrees a day: the short way to the next day's seconds, negative backwards (half a circle
- * is backwards), divided and rounded alike; at least -180.0 and below 180.0. On the last day the order is to hold. The order is
+ * is backwards), divided and rounded alike; at least -1.0 and below 14.0. On the last day the order is to hold. The order is
  * GRAHA_HOLD or GRAHA_RUN; the rate is 0.0 where the order is to hold, as it is where refused. No angle and no rate is -0.0, a NaN or an infinity. */
 uint32_t graha_follow_result(uint32_t day, uint32_t body);
 uint32_t graha_follow_order(uint32_t day, uint32_t body);

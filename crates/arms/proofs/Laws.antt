@@ -1,14 +1,14 @@
 -- The orders case by case: which is refused, and what place and follow give where they are not.
 -- Assumes nothing.
-use mathlib.Core.Path.{_≡_, refl, ap, _∙_, subst, sym}
-use Prim.Native.Nat.{ℕ, _+_, _<_, _≤_}
+use mathlib.Core.Path.{_≡_, refl, subst}
+use Prim.Native.Nat.{ℕ, _<_, _≤_}
 use native.Mathlib.Decide.{decLe}
 use native.Mathlib.Omega.{arith}
 use borrow.Author.Tests.{le-leb, lt-leb, lt-ltb, le-ltb, eq-eqb, ne-eqb}
 use Rattle.days.specs.Days.{lastDay}
 use Rattle.days.specs.Refusals.{accepted, outOfRange, noSuchBody}
 use lib.IntN.{pos}
-use lib.Ieee.{Float, round}
+use lib.Ieee.{round}
 use Rattle.longitudes.proofs.Table.{longitude-small}
 use Rattle.arms.specs.Degrees.{degreesOf}
 use Rattle.arms.specs.Orders.{noDegrees, refusalOn, secondsOn, angleOn, rateOn, held, placeOf, followOf}

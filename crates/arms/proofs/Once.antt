@@ -2,7 +2,7 @@
 -- Assumes nothing.
 use mathlib.Core.Path.{_≡_, refl, ap, _∙_}
 use mathlib.Core.Bool.{Bool, true, false}
-use Prim.Native.Nat.{ℕ, suc, _*_, _^_, _<_}
+use Prim.Native.Nat.{ℕ, suc, _*_, _^_}
 use native.Mathlib.Nat.{mul-assoc, mul-comm, mul-pos, le-of-lt, le-trans}
 use lib.IntN.{ℤ, pos, negsuc}
 use lib.Dec.{lit<, lit≤}

@@ -2,7 +2,7 @@
 -- Assumes nothing.
 use mathlib.Core.Path.{_≡_, refl, sym, ap, _∙_, subst}
 use mathlib.Core.Bool.{Bool, true, false, not, cond, _||_, _&&_}
-use mathlib.Core.Logic.{_⊎_, inl, inr}
+use mathlib.Core.Logic.{inl, inr}
 use Prim.Native.Nat.{ℕ, zero, suc, _+_, _*_, _/_, _%_, _^_, _<_, _≤_}
 use native.Mathlib.Nat.{mul-assoc, mul-pos, mul-lt-mul-of-pos-right, lt-of-lt-of-le, not-le-of-lt}
 use native.Mathlib.Decide.{decLt}
@@ -10,8 +10,8 @@ use native.Mathlib.Omega.{arith}
 use lib.IntN.{ℤ, pos, negsuc, negℤ}
 use lib.Dec.{T, ltb, eqb, eqb·suc-zero, eqb→eq, lt→ltb, ltb→lt, lit<, lit≤}
 use lib.Pow.{pow-pos}
-use lib.Ieee.{Float, nan, inf, fin, binary64, prec, low, emax, up, down, odd, units, nearest, round, neg, ofInt, le, lt, eq}
-use lib.Ieee.Fits.{up-pos, down-pos, eq→eqb, and-i, and-l, core, round-is}
+use lib.Ieee.{Float, nan, inf, fin, binary64, prec, low, emax, up, down, odd, units, round, neg, ofInt, le, lt, eq}
+use lib.Ieee.Fits.{up-pos, down-pos, eq→eqb, and-i, and-l, round-is}
 use lib.Ieee.Exact.{HasValue, round-exact}
 use lib.Ieee.Order.{round-mono}
 use lib.Ieee.Positive.{num, den, positive, den-pos, le→cross, le-trans-positive, through, between}

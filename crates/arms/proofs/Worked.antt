@@ -2,14 +2,13 @@
 -- Assumes nothing.
 use mathlib.Core.Path.{_≡_, refl}
 use mathlib.Core.Bool.{true, false}
-use mathlib.Core.List.{List, [], _∷_}
-use Prim.Native.Nat.{ℕ}
+use mathlib.Core.List.{[], _∷_}
 use lib.IntN.{pos, negsuc}
 use lib.Ieee.{Float, fin, round}
 use Rattle.integers.specs.Integers.{floorOver, reduced}
 use Rattle.longitudes.specs.Longitudes.{table, meanLongitude, longitudeAt, differenceOf}
 use Rattle.arms.specs.Degrees.{degreesOf, shortWay}
-use Rattle.arms.specs.Orders.{Numbers, noDegrees, refusalOn, held, placeOf, followOf}
+use Rattle.arms.specs.Orders.{Numbers, refusalOn, held, placeOf, followOf}
 
 abbrev gone : Float → Numbers
 gone angle = record { refusal = 0; order = 1; value = angle }

@@ -1,6 +1,6 @@
 -- Between what an angle and a rate lie, and where an angle is exact, in the terms of the library of floats.
 -- Assumes nothing.
-use mathlib.Core.Bool.{Bool, true, false, not, _&&_}
+use mathlib.Core.Bool.{Bool, false, not, _&&_}
 use mathlib.Core.Path.{_≡_}
 use Prim.Native.Nat.{ℕ, _%_}
 use lib.Dec.{T, eqb}

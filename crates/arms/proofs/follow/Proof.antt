@@ -1,9 +1,7 @@
 -- `follow` meets its contract: held where it is refused and on the last day, else it runs at the rate, whose range is a law. Assumes nothing.
 use borrow.Author.Needs.{needs}
 use mathlib.Core.Path.{_≡_, sym, _∙_, subst}
-use Prim.Native.Nat.{_≤_, _<_}
 use native.Mathlib.Omega.{arith}
-use Rattle.days.specs.Days.{lastDay}
 use Rattle.arms.specs.Orders.{orderNumber, orderValue, refusalOn}
 use Rattle.arms.specs.Ranges.{IsRate}
 use Rattle.arms.proofs.Laws.{in-ranges, follow-held, follow-ends, follow-runs, hold-rate, run-rate}

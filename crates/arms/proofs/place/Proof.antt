@@ -1,8 +1,7 @@
 -- `place` meets its contract: held where it is refused, else it goes to the angle, whose range and exact case are laws. Assumes nothing.
 use borrow.Author.Needs.{needs}
-use mathlib.Core.Path.{_≡_, sym, ap, _∙_, subst}
-use lib.Ieee.{Float}
-use Rattle.arms.specs.Orders.{Numbers, orderNumber, orderValue, refusalOn}
+use mathlib.Core.Path.{_≡_, sym, _∙_, subst}
+use Rattle.arms.specs.Orders.{orderNumber, orderValue, refusalOn}
 use Rattle.arms.specs.Ranges.{IsAngle, ExactAngle}
 use Rattle.arms.proofs.Laws.{in-ranges, place-held, place-goes, hold-angle, go-angle, exact-angle}
 use Rattle.arms.proofs.place.Statement.{statement}
