@@ -102,6 +102,13 @@ unsafe extern "C" {
     /// The list is lent as the search's.
     pub fn graha_sign_entries(first: u32, last: u32, list: *mut u8, list_len: usize) -> u32;
     pub safe fn graha_sign_entries_length(first: u32, last: u32) -> u32;
+
+    /// Orders for the arms: to go to an angle, and to run (2) at a rate or to hold (0).
+    pub safe fn graha_place_result(day: u32, body: u32) -> u32;
+    pub safe fn graha_place_angle(day: u32, body: u32) -> f64;
+    pub safe fn graha_follow_result(day: u32, body: u32) -> u32;
+    pub safe fn graha_follow_order(day: u32, body: u32) -> u32;
+    pub safe fn graha_follow_rate(day: u32, body: u32) -> f64;
 }
 
 #[link(name = "bridge", kind = "static")]

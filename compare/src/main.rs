@@ -58,6 +58,9 @@ fn main() {
     checks.part("drift from the older books", |checks| {
         runs::drift::run(checks, &almanac)
     });
+    checks.part("orders for the arms", |checks| {
+        runs::arms::run(checks, &almanac)
+    });
     checks.part("lines into a buffer", |checks| {
         runs::lines::run(checks, &almanac)
     });

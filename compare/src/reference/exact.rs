@@ -1,5 +1,5 @@
-//! Exact fractions, so that a place is rounded once and only where the paper rounds it, and the
-//! reduction by whole circles.
+//! Exact fractions, so that a place is rounded once and only where the paper rounds it; the reduction
+//! by whole circles, and the short way round.
 
 /// Seconds of arc in a circle.
 pub const CIRCLE: i128 = 1_296_000;
@@ -65,4 +65,15 @@ impl Fraction {
 /// "Reduced by whole circles": from 0 to 1,295,999.
 pub fn reduced(seconds: i128) -> u32 {
     seconds.rem_euclid(CIRCLE) as u32
+}
+
+/// The signed short way from one place to another, "half a circle counting as backwards" (paper 02,
+/// L13): from −648,000 to 647,999.
+pub fn short_way(from: u32, to: u32) -> i64 {
+    let forwards = i64::from(reduced(i128::from(to) - i128::from(from)));
+    if forwards < 648_000 {
+        forwards
+    } else {
+        forwards - 1_296_000
+    }
 }

@@ -1,5 +1,6 @@
 //! The comparisons, a file for each part.
 
+pub mod arms;
 pub mod civil;
 pub mod day_input;
 pub mod day_sheet;

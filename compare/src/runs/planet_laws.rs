@@ -3,10 +3,8 @@
 
 use crate::checks::Checks;
 use crate::reference::almanac::Almanac;
-use crate::reference::exact::{Fraction, CIRCLE};
+use crate::reference::exact::{short_way, Fraction, CIRCLE};
 use crate::reference::planets::{Planet, Steps, PLANETS, STEP, TENTH};
-
-use super::worked::short_way;
 
 const HALF_CIRCLE: i128 = 648_000;
 

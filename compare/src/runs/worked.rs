@@ -9,6 +9,7 @@ use crate::reference::almanac::Almanac;
 use crate::reference::civil::Date;
 use crate::reference::days::LAST_DAY;
 use crate::reference::edition::Edition;
+use crate::reference::exact::short_way;
 use crate::reference::list::result_for;
 use crate::reference::longitudes::{
     JUPITER, MARS, MERCURY_ANOMALY, MOON, MOON_APOGEE, SUN, VENUS_ANOMALY,
@@ -199,16 +200,6 @@ fn second_rule(checks: &mut Checks, almanac: &Almanac) {
         let input = || format!("edition {edition}, day {number}");
         let came = almanac.elements(edition, number).err();
         checks.same("another edition", input, Some(14), came);
-    }
-}
-
-/// The signed short way from one place to another.
-pub fn short_way(from: u32, to: u32) -> i64 {
-    let forwards = (i64::from(to) - i64::from(from)).rem_euclid(1_296_000);
-    if forwards < 648_000 {
-        forwards
-    } else {
-        forwards - 1_296_000
     }
 }
 

@@ -1,0 +1,176 @@
+//! Orders for the arms, over the host's calls: the nine bodies placed and followed on all days of the
+//! table, floats compared bit for bit, and refused days and bodies.
+
+use crate::calls::*;
+use crate::checks::Checks;
+use crate::random::Random;
+use crate::reference::almanac::Almanac;
+use crate::reference::arms::{given, Degrees, Order};
+use crate::reference::days::LAST_DAY;
+use crate::reference::exact::short_way;
+use crate::reference::float::{nearest, parts, SIGN};
+use crate::reference::refusal::result_number;
+
+use super::{NO_DAYS, WIDTH_EDGES};
+
+/// The call's number of an order.
+fn number_of(order: Order) -> u32 {
+    match order {
+        Order::Hold => 0,
+        Order::Go(_) => 1,
+        Order::Run(_) => 2,
+    }
+}
+
+/// The float of an order; 0.0 where it is to hold.
+fn float_of(order: Order) -> u64 {
+    match order {
+        Order::Hold => 0,
+        Order::Go(float) | Order::Run(float) => float,
+    }
+}
+
+fn compare_float(
+    checks: &mut Checks,
+    call: &str,
+    input: impl Fn() -> String,
+    expected: u64,
+    came: f64,
+) {
+    checks.same(call, &input, expected, came.to_bits());
+    let number = came.is_finite() && came.to_bits() != SIGN;
+    checks.same("a number, and not −0.0", input, true, number);
+}
+
+/// All five calls.
+fn compare(checks: &mut Checks, almanac: &Almanac, degrees: &Degrees, day: u32, body: u32) {
+    let input = || format!("day {day}, body {body}");
+    let place = degrees.place(almanac, day, body);
+    let result = result_number(&place);
+    let came = graha_place_result(day, body);
+    checks.same("graha_place_result", input, result, came);
+    let angle = float_of(given(&place));
+    let came = graha_place_angle(day, body);
+    compare_float(checks, "graha_place_angle", input, angle, came);
+
+    let follow = degrees.follow(almanac, day, body);
+    let result = result_number(&follow);
+    let came = graha_follow_result(day, body);
+    checks.same("graha_follow_result", input, result, came);
+    let order = number_of(given(&follow));
+    let came = graha_follow_order(day, body);
+    checks.same("graha_follow_order", input, order, came);
+    let rate = float_of(given(&follow));
+    let came = graha_follow_rate(day, body);
+    compare_float(checks, "graha_follow_rate", input, rate, came);
+}
+
+/// Fractions whose nearest floats are known: whole numbers, ties and what is just beside them, a carry
+/// over all bits, and some of a third.
+fn known_floats(checks: &mut Checks) {
+    let cases = [
+        ((0, 3600), 0),
+        ((1, 1), 0x3FF0_0000_0000_0000),
+        ((-1, 1), 0xBFF0_0000_0000_0000),
+        ((3600, 3600), 0x3FF0_0000_0000_0000),
+        ((1, 2), 0x3FE0_0000_0000_0000),
+        ((-5, 2), 0xC004_0000_0000_0000),
+        ((359, 1), 0x4076_7000_0000_0000),
+        ((1, 3), 0x3FD5_5555_5555_5555),
+        ((2, 3), 0x3FE5_5555_5555_5555),
+        ((1, 10), 0x3FB9_9999_9999_999A),
+        // 2^53 − 1 is whole; 2^53 + 1 and + 3 lie in the middle between two floats.
+        (((1 << 53) - 1, 1), 0x433F_FFFF_FFFF_FFFF),
+        (((1 << 53) + 1, 1), 0x4340_0000_0000_0000),
+        (((1 << 53) + 3, 1), 0x4340_0000_0000_0002),
+        ((-(1 << 53) - 1, 1), 0xC340_0000_0000_0000),
+        (((1 << 54) + 1, 2), 0x4340_0000_0000_0000),
+        (((1 << 54) + 3, 2), 0x4340_0000_0000_0001),
+        (((1 << 54) + 7, 4), 0x4330_0000_0000_0002),
+        (((1 << 54) - 1, 1), 0x4350_0000_0000_0000),
+        (((1 << 54) - 1, 4), 0x4330_0000_0000_0000),
+    ];
+    for ((over, under), expected) in cases {
+        let input = || format!("{over} / {under}");
+        checks.same("the nearest float", input, expected, nearest(over, under));
+    }
+}
+
+/// What L13 says of an angle, for every second of a circle: "at least 0 and below 360, and exact
+/// whenever the seconds are a multiple of 225"; and that no float is nearer, since it is at most half a
+/// unit of its last bit away.
+fn quotients(checks: &mut Checks, degrees: &Degrees) {
+    checks.same("the angle", || "0 seconds".to_string(), 0, degrees.angle(0));
+    for seconds in 1..1_296_000 {
+        let input = || format!("{seconds} seconds");
+        let (whole, exponent) = parts(degrees.angle(seconds));
+        // The angle is whole / 2^down, and as a size in seconds it is had / 2^down.
+        let down = exponent
+            .checked_neg()
+            .and_then(|down| u32::try_from(down).ok());
+        let unit = 1 << down.expect("a float below 360 has bits behind the point");
+        let (asked, had) = (u128::from(seconds) * unit, whole * 3600);
+        let apart = asked.abs_diff(had);
+        checks.same("no float is nearer", input, true, 2 * apart <= 3600);
+        checks.same("below 360", input, true, whole < 360 * unit);
+        if seconds % 225 == 0 {
+            checks.same("exact", input, 0, apart);
+        }
+    }
+}
+
+/// "The signed short way [...], half a circle counting as backwards."
+fn ways(checks: &mut Checks) {
+    for (from, to, expected) in [
+        (0, 0, 0),
+        (0, 1, 1),
+        (1, 0, -1),
+        (0, 647_999, 647_999),
+        (0, 648_000, -648_000),
+        (648_000, 0, -648_000),
+        (0, 648_001, -647_999),
+        (0, 1_295_999, -1),
+        (1_295_999, 0, 1),
+        (1_295_000, 2000, 3000),
+        (2000, 1_295_000, -3000),
+    ] {
+        let input = || format!("from {from} to {to}");
+        checks.same("the short way", input, expected, short_way(from, to));
+    }
+}
+
+/// Numbers that are no days, bodies above 8, and both together, where 2 comes first.
+fn refused(checks: &mut Checks, almanac: &Almanac, degrees: &Degrees) {
+    let mut random = Random::from_seed();
+    let mut compare = |day, body| compare(checks, almanac, degrees, day, body);
+    let drawn: Vec<u32> = (0..2000).map(|_| random.number()).collect();
+    let behind = LAST_DAY + 1..=LAST_DAY + 1000;
+    for day in behind.chain(NO_DAYS).chain(WIDTH_EDGES).chain(drawn) {
+        for body in (0..=12).chain(WIDTH_EDGES) {
+            compare(day, body);
+        }
+    }
+    let edges = [0, 1, 4015, 4016, LAST_DAY - 1, LAST_DAY];
+    let drawn: Vec<u32> = (0..2000).map(|_| random.below(LAST_DAY + 1)).collect();
+    for day in edges.into_iter().chain(drawn) {
+        for body in (0..=40).chain(WIDTH_EDGES).chain([random.number()]) {
+            compare(day, body);
+        }
+    }
+    for _ in 0..20_000 {
+        compare(random.number(), random.number());
+    }
+}
+
+pub fn run(checks: &mut Checks, almanac: &Almanac) {
+    let degrees = Degrees::of_circle();
+    known_floats(checks);
+    quotients(checks, &degrees);
+    ways(checks);
+    for day in 0..=LAST_DAY {
+        for body in 0..9 {
+            compare(checks, almanac, &degrees, day, body);
+        }
+    }
+    refused(checks, almanac, &degrees);
+}
