@@ -73,7 +73,7 @@ parts a w q h = go (decLt ((a % q + w % q) / q) 1)
     go (no l) = inr (omega (arith, sum, below))
 
 -- with m circles put on, one place is N past another
-past : (x y N m : ℕ) → x + m * circle ≡ y + N → differenceOf (x % circle) (y % circle) ≡ N % circle
+pub past : (x y N m : ℕ) → x + m * circle ≡ y + N → differenceOf (x % circle) (y % circle) ≡ N % circle
 past x y N m e = difference-by (x % circle) (y % circle) N (m + x / circle - y / circle) (omega arith)
 
 short-past : (x y N m : ℕ) → x + m * circle ≡ y + N → T (short (N % circle)) → T (short (differenceOf (x % circle) (y % circle)))

@@ -6,7 +6,8 @@ use native.Mathlib.Nat.{lt-of-lt-of-le}
 use native.Mathlib.Decide.{decLt}
 use native.Mathlib.Omega.{arith}
 use borrow.Author.Tests.{lt-ltb, le-ltb}
-use lib.Dec.{lit≤}
+use mathlib.Core.Bool.{cond}
+use lib.Dec.{lit≤, ltb}
 use lib.IntN.{ℤ, pos, negsuc, _-ℤ_}
 use mir.Syntax.{w32}
 use mir.Val.{SFits, toZ}
@@ -14,6 +15,7 @@ use mir.Facts.{toZ-pos}
 use Rattle.longitudes.specs.Longitudes.{circle, differenceOf}
 use Rattle.longitudes.proofs.Subtraction.{difference-small, is-small, difference-turned}
 use Rattle.arms.specs.Degrees.{half, shortWay}
+use Rattle.arms.specs.Parts.{signedWay}
 use Rattle.arms.proofs.Ranges.{Within}
 
 pub way-forwards : (from to x : ℕ) → x ≡ differenceOf to from → x < half → shortWay from to ≡ pos x
@@ -51,6 +53,15 @@ fits-back x h = subst (SFits w32) (sym (circle-less x h)) (record { sfits = lt-o
   where
     below : (x : ℕ) → circle - suc x < circle
     below x = omega arith
+
+-- the short way by the way forwards
+pub signed-way : (from to x : ℕ) → x ≡ differenceOf to from → signedWay x ≡ shortWay from to
+unfolding signedWay
+signed-way from to x e = go (decLt x half)
+  where
+    go : Dec (x < half) → cond (ltb x half) (pos x) (pos x -ℤ pos circle) ≡ shortWay from to
+    go (yes h) = rw (lt-ltb _ _ h) (sym (way-forwards from to x e h))
+    go (no h) = rw (le-ltb x half (omega arith)) (less-circle x (is-small x to from e) ∙ sym (way-back from to x e (omega arith)))
 
 pub way-fits : (from to : ℕ) → SFits w32 (shortWay from to)
 way-fits from to = go (shortWay from to) (within-half from to)

@@ -1,3 +1,4 @@
 pub mod Degrees
 pub mod Orders
 pub mod Ranges
+pub mod Parts

@@ -1,17 +1,16 @@
 // Orders for the arms of a planet table: to hold, to go to a body's angle, or to run at its rate, in degrees as 64-bit floats.
 use days::Day;
 use days::refusal;
-use longitudes::Body;
 use longitudes::CIRCLE;
+use longitudes::Motion;
 ghost use mathlib.Core.Path.{_≡_};
-ghost use mathlib.Core.Bool.{true};
-ghost use Prim.Native.Nat.{_≤_, _<_};
-ghost use Rattle.days.specs.Days.{lastDay, inRange};
-ghost use Rattle.longitudes.specs.Longitudes.{longitudeAt};
-ghost use Rattle.longitudes.specs.Answers.{bodyNumber};
-ghost use Rattle.arms.specs.Degrees.{degreesOf, shortWay};
-ghost use Rattle.arms.specs.Orders.{orderNumber, orderValue, carriedOut, refusalOn, secondsOn, angleOn, rateOn, placeOf, followOf, numbersOf};
+ghost use Prim.Native.Nat.{_+_, _≤_, _<_};
+ghost use Rattle.days.specs.Days.{lastDay};
+ghost use Rattle.longitudes.specs.Longitudes.{differenceOf};
+ghost use Rattle.arms.specs.Degrees.{degreesOf};
+ghost use Rattle.arms.specs.Orders.{orderNumber, orderValue, carriedOut, refusalOn, angleOn, rateOn, placeOf, followOf, numbersOf};
 ghost use Rattle.arms.specs.Ranges.{IsAngle, ExactAngle, IsRate};
+ghost use Rattle.arms.specs.Parts.{Reckonable, stepsOf, secondsBy, Small, StepsFor, signedWay};
 
 // What an arm is told: to stay where it is, to go to an angle, or to run on at a rate.
 pub enum Order {
@@ -86,11 +85,11 @@ fn degrees(seconds: i32) -> f64
     (seconds as f64) / 3600.0
 }
 
-// The signed short way from a longitude to another; half a circle is backwards.
-fn short_way(from: u32, to: u32) -> i32
-    ensures { λ r. ⌜ r ≡ shortWay from to ⌝ }
+// The signed short way, of a way forwards; half a circle is backwards.
+fn short_way(forwards: u32) -> i32
+    requires { ⌜ forwards < 1296000 ⌝ }
+    ensures { λ r. ⌜ r ≡ signedWay forwards ⌝ }
 {
-    let forwards = longitudes::difference(to, from);
     if forwards < HALF {
         forwards as i32
     } else {
@@ -98,45 +97,84 @@ fn short_way(from: u32, to: u32) -> i32
     }
 }
 
-fn mean_on(day: Day, body: Body) -> u32
-    requires { ⌜ inRange day ≡ true ⌝ }
-    ensures { λ r. ⌜ (r ≡ longitudeAt (bodyNumber body) day) × (r < 1296000) ⌝ }
-{
-    longitudes::mean_longitude(body, day).seconds
+// Parts of a second, so small that a day's motion rounded up to a part gives the same whole seconds on each day of a cycle.
+const PARTS: u64 = 8388608;
+
+// What a body's whole seconds are reckoned from, with no division by its own q: its longitude at the epoch, what a cycle adds, and a day's motion in parts, rounded up.
+struct Steps {
+    epoch: u32,
+    cycle: u32,
+    day: u64,
 }
 
-// A case for each body, so that the compiler has its motion as constants.
-fn numbered_on(day: Day, body: u32) -> u32
-    requires { ⌜ (inRange day ≡ true) × (body ≤ 8) ⌝ }
-    ensures { λ r. ⌜ (r ≡ longitudeAt body day) × (r < 1296000) ⌝ }
+fn steps_of(row: Motion) -> Steps
+    requires { ⌜ Reckonable row ⌝ }
+    ensures { λ r. ⌜ r ≡ stepsOf row ⌝ }
 {
-    match body {
-        0 => mean_on(day, Body::Sun),
-        1 => mean_on(day, Body::Moon),
-        2 => mean_on(day, Body::MoonApogee),
-        3 => mean_on(day, Body::MoonNode),
-        4 => mean_on(day, Body::Mars),
-        5 => mean_on(day, Body::MercuryAnomaly),
-        6 => mean_on(day, Body::Jupiter),
-        7 => mean_on(day, Body::VenusAnomaly),
-        _ => mean_on(day, Body::Saturn),
+    let cycle = CIRCLE - row.d;
+    let divisor = row.q as u64;
+    let motion = row.p as u64 * PARTS;
+    let day = (motion + (divisor - 1)) / divisor;
+    Steps {
+        epoch: row.k,
+        cycle,
+        day,
     }
 }
 
-// A body's whole seconds on a day.
-fn seconds_on(day: u32, body: u32) -> u32
-    requires { ⌜ (day ≤ lastDay) × (body ≤ 8) ⌝ }
-    ensures { λ r. ⌜ (r ≡ secondsOn day body) × (r < 1296000) ⌝ }
+// A case for each body: the compiler knows its steps, and makes a table of them.
+fn steps_for(body: u32) -> Steps
+    requires { ⌜ body ≤ 8 ⌝ }
+    ensures { λ r. ⌜ StepsFor body r ⌝ }
 {
-    let pair = Day::from_number(day);
-    numbered_on(pair.day, body)
+    match body {
+        0 => steps_of(longitudes::SUN),
+        1 => steps_of(longitudes::MOON),
+        2 => steps_of(longitudes::MOON_APOGEE),
+        3 => steps_of(longitudes::MOON_NODE),
+        4 => steps_of(longitudes::MARS),
+        5 => steps_of(longitudes::MERCURY_ANOMALY),
+        6 => steps_of(longitudes::JUPITER),
+        7 => steps_of(longitudes::VENUS_ANOMALY),
+        _ => steps_of(longitudes::SATURN),
+    }
+}
+
+// The whole seconds on a day.
+fn seconds_by(steps: Steps, day: u32) -> u32
+    requires { ⌜ Small steps × (day ≤ lastDay) ⌝ }
+    ensures { λ r. ⌜ (r ≡ secondsBy steps day) × (r < 1296000) ⌝ }
+{
+    let cycle = day / Day::CYCLE_DAYS;
+    let within = day % Day::CYCLE_DAYS;
+    let turned = steps.epoch + cycle * steps.cycle;
+    let moved = within as u64 * steps.day;
+    let whole = turned as u64 + moved / PARTS;
+    (whole % CIRCLE as u64) as u32
+}
+
+// The way forwards to the next day's whole seconds: within a cycle what the day moves, with nothing to reduce.
+fn forwards_by(steps: Steps, day: u32) -> u32
+    requires { ⌜ Small steps × (day < lastDay) ⌝ }
+    ensures { λ r. ⌜ (r ≡ differenceOf (secondsBy steps (day + 1)) (secondsBy steps day)) × (r < 1296000) ⌝ }
+{
+    let within = day % Day::CYCLE_DAYS;
+    if within < Day::CYCLE_DAYS - 1 {
+        let moved = within as u64 * steps.day;
+        let next = moved + steps.day;
+        return (next / PARTS - moved / PARTS) as u32;
+    }
+    let from = seconds_by(steps, day);
+    let to = seconds_by(steps, day + 1);
+    longitudes::difference(to, from)
 }
 
 fn angle_on(day: u32, body: u32) -> f64
     requires { ⌜ (day ≤ lastDay) × (body ≤ 8) ⌝ }
     ensures { λ r. ⌜ r ≡ angleOn day body ⌝ }
 {
-    let at = seconds_on(day, body);
+    let steps = steps_for(body);
+    let at = seconds_by(steps, day);
     degrees(at as i32)
 }
 
@@ -144,10 +182,9 @@ fn rate_on(day: u32, body: u32) -> f64
     requires { ⌜ (day < lastDay) × (body ≤ 8) ⌝ }
     ensures { λ r. ⌜ r ≡ rateOn day body ⌝ }
 {
-    let from = seconds_on(day, body);
-    let to = seconds_on(day + 1, body);
-    let way = short_way(from, to);
-    degrees(way)
+    let steps = steps_for(body);
+    let forwards = forwards_by(steps, day);
+    degrees(short_way(forwards))
 }
 
 // The day's refusal, then the body's, or 0.

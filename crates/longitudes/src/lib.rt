@@ -70,47 +70,60 @@ pub const MOON_APOGEE: Motion = Motion {
     q: 7,
 };
 
-// Paper 01's table, in the order of `Body`. The node goes 10876 / 57 backwards: a circle less that forwards.
+// It goes 10876 / 57 backwards: a circle less that forwards.
+pub const MOON_NODE: Motion = Motion {
+    k: 99480,
+    d: 766200,
+    p: CIRCLE * 57 - 10876,
+    q: 57,
+};
+
+pub const MARS: Motion = Motion {
+    k: 1105680,
+    d: 199920,
+    p: 2616600,
+    q: 1387,
+};
+
+pub const MERCURY_ANOMALY: Motion = Motion {
+    k: 970380,
+    d: 444420,
+    p: 1487490,
+    q: 133,
+};
+
+pub const JUPITER: Motion = Motion {
+    k: 764160,
+    d: 94680,
+    p: 2094,
+    q: 7,
+};
+
+pub const VENUS_ANOMALY: Motion = Motion {
+    k: 828540,
+    d: 158520,
+    p: 401760,
+    q: 181,
+};
+
+pub const SATURN: Motion = Motion {
+    k: 1027260,
+    d: 812520,
+    p: 1565,
+    q: 13,
+};
+
+// Paper 01's table, in the order of `Body`.
 const TABLE: [Motion; BODIES] = [
     SUN,
     MOON,
     MOON_APOGEE,
-    Motion {
-        k: 99480,
-        d: 766200,
-        p: CIRCLE * 57 - 10876,
-        q: 57,
-    },
-    Motion {
-        k: 1105680,
-        d: 199920,
-        p: 2616600,
-        q: 1387,
-    },
-    Motion {
-        k: 970380,
-        d: 444420,
-        p: 1487490,
-        q: 133,
-    },
-    Motion {
-        k: 764160,
-        d: 94680,
-        p: 2094,
-        q: 7,
-    },
-    Motion {
-        k: 828540,
-        d: 158520,
-        p: 401760,
-        q: 181,
-    },
-    Motion {
-        k: 1027260,
-        d: 812520,
-        p: 1565,
-        q: 13,
-    },
+    MOON_NODE,
+    MARS,
+    MERCURY_ANOMALY,
+    JUPITER,
+    VENUS_ANOMALY,
+    SATURN,
 ];
 
 // a less b, reduced by whole circles.
