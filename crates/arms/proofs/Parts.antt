@@ -30,7 +30,8 @@ in-parts A w q s M u m eq ha hs low high quotient left =
     let most : A * M * q < (parts * u + parts) * q = omega (arith, at-most, over, quotient) in
     omega (arith, lt-of-mul-lt-mul-right q {m = parts * u} {n = A * M + 1} least, lt-of-mul-lt-mul-right q {m = A * M} {n = parts * u + parts} most)
 
-day-parts : (A w q : ℕ) → A < 4016 → 0 < q → q < 2000 → A * roundedUp (w * parts) q / parts ≡ A * w / q
+-- the whole seconds of A days are the same in parts
+pub day-parts : (A w q : ℕ) → A < 4016 → 0 < q → q < 2000 → A * roundedUp (w * parts) q / parts ≡ A * w / q
 day-parts A w q ha hq hs =
     in-parts A w q (q - 1) (roundedUp (w * parts) q) (A * w / q) (A * w % q) (omega arith) (omega arith) (omega arith)
     (rounded-up (w * parts) q hq .enough)
