@@ -36,17 +36,17 @@ orderValue (Go angle) = angle
 orderValue (Run rate) = rate
 
 -- an answer in numbers: the refusal or 0, and the order's two
-pub record Numbers : Type 0 where
+pub record AnswerNumbers : Type 0 where
   pub refusal : ℕ
   pub order : ℕ
   pub value : Float
 
-abbrev pub numbersOf : OrderAnswer → Numbers
-numbersOf a = record { refusal = a .refusal; order = orderNumber (a .order); value = orderValue (a .order) }
+abbrev pub answerNumbers : OrderAnswer → AnswerNumbers
+answerNumbers a = record { refusal = a .refusal; order = orderNumber (a .order); value = orderValue (a .order) }
 
 -- 2 for the day, then 16 for a body above 8, or 0
-unfoldable pub refusalOn : ℕ → ℕ → ℕ
-refusalOn day body = cond (leb day lastDay) (cond (leb body 8) accepted noSuchBody) outOfRange
+unfoldable pub orderRefusal : ℕ → ℕ → ℕ
+orderRefusal day body = cond (leb day lastDay) (cond (leb body 8) accepted noSuchBody) outOfRange
 
 -- a body's whole seconds on a day
 abbrev pub secondsOn : ℕ → ℕ → ℕ
@@ -59,19 +59,19 @@ angleOn day body = degreesOf (pos (secondsOn day body))
 abbrev pub rateOn : ℕ → ℕ → Float
 rateOn day body = degreesOf (shortWay (secondsOn day body) (secondsOn (day + 1) body))
 
-abbrev pub held : ℕ → Numbers
+abbrev pub held : ℕ → AnswerNumbers
 held refusal = record { refusal = refusal; order = 0; value = noDegrees }
 
 -- TO PLACE a body on a day is to go to its angle; where that is refused, to hold
-unfoldable pub placeOf : ℕ → ℕ → Numbers
+unfoldable pub placeOf : ℕ → ℕ → AnswerNumbers
 placeOf day body =
-    cond (eqb (refusalOn day body) accepted)
+    cond (eqb (orderRefusal day body) accepted)
     (record { refusal = accepted; order = 1; value = angleOn day body })
-    (held (refusalOn day body))
+    (held (orderRefusal day body))
 
 -- TO FOLLOW it is to run at its rate, and on the last day to hold; where that is refused, to hold
-unfoldable pub followOf : ℕ → ℕ → Numbers
+unfoldable pub followOf : ℕ → ℕ → AnswerNumbers
 followOf day body =
-    cond (eqb (refusalOn day body) accepted)
+    cond (eqb (orderRefusal day body) accepted)
     (cond (ltb day lastDay) (record { refusal = accepted; order = 2; value = rateOn day body }) (held accepted))
-    (held (refusalOn day body))
+    (held (orderRefusal day body))

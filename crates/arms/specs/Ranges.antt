@@ -8,7 +8,7 @@ use lib.IntN.{ℤ, pos, negℤ}
 use lib.Ieee.{Float, nan, inf, fin, binary64, ofInt, le, lt}
 use lib.Ieee.Exact.{HasValue}
 use Rattle.days.specs.Refusals.{accepted}
-use Rattle.arms.specs.Orders.{refusalOn, secondsOn}
+use Rattle.arms.specs.Orders.{orderRefusal, secondsOn}
 
 -- neither a NaN nor an infinity nor the negative zero
 unfoldable pub isProper : Float → Bool
@@ -32,7 +32,7 @@ IsAngle x = Between (pos 0) (pos 360) x
 
 -- where the seconds are a multiple of 225, the angle is exactly their 3600th part
 abbrev pub ExactAngle : ℕ → ℕ → Float → Type 0
-ExactAngle day body x = refusalOn day body ≡ accepted → secondsOn day body % 225 ≡ 0 → HasValue x false (secondsOn day body) 3600
+ExactAngle day body x = orderRefusal day body ≡ accepted → secondsOn day body % 225 ≡ 0 → HasValue x false (secondsOn day body) 3600
 
 -- at least −1 and below 14 degrees a day
 abbrev pub IsRate : Float → Type 0

@@ -8,7 +8,7 @@ ghost use Prim.Native.Nat.{_+_, _≤_, _<_};
 ghost use Rattle.days.specs.Days.{lastDay};
 ghost use Rattle.longitudes.specs.Longitudes.{differenceOf};
 ghost use Rattle.arms.specs.Degrees.{degreesOf};
-ghost use Rattle.arms.specs.Orders.{orderNumber, orderValue, carriedOut, refusalOn, angleOn, rateOn, placeOf, followOf, numbersOf};
+ghost use Rattle.arms.specs.Orders.{orderNumber, orderValue, carriedOut, orderRefusal, angleOn, rateOn, placeOf, followOf, answerNumbers};
 ghost use Rattle.arms.specs.Ranges.{IsAngle, ExactAngle, IsRate};
 ghost use Rattle.arms.specs.Parts.{Reckonable, stepsOf, secondsBy, Small, StepsFor, signedWay};
 
@@ -189,7 +189,7 @@ fn rate_on(day: u32, body: u32) -> f64
 
 // The day's refusal, then the body's, or 0.
 fn refusal_on(day: u32, body: u32) -> u32
-    ensures { λ r. ⌜ r ≡ refusalOn day body ⌝ }
+    ensures { λ r. ⌜ r ≡ orderRefusal day body ⌝ }
 {
     if Day::LAST < day {
         return refusal::OUT_OF_RANGE;
@@ -202,7 +202,7 @@ fn refusal_on(day: u32, body: u32) -> u32
 
 // To place a body by its number on a day: the order to go to its angle.
 pub fn place(day: u32, body: u32) -> OrderAnswer
-    ensures meant { λ r. ⌜ numbersOf r ≡ placeOf day body ⌝ }
+    ensures meant { λ r. ⌜ answerNumbers r ≡ placeOf day body ⌝ }
     ensures range { λ r. ⌜ IsAngle (orderValue (r .order)) ⌝ }
     ensures exact { λ r. ⌜ ExactAngle day body (orderValue (r .order)) ⌝ }
 {
@@ -222,7 +222,7 @@ pub fn place(day: u32, body: u32) -> OrderAnswer
 
 // To follow a body by its number from a day to the next: the order to run at its rate, on the last day to hold.
 pub fn follow(day: u32, body: u32) -> OrderAnswer
-    ensures meant { λ r. ⌜ numbersOf r ≡ followOf day body ⌝ }
+    ensures meant { λ r. ⌜ answerNumbers r ≡ followOf day body ⌝ }
     ensures range { λ r. ⌜ IsRate (orderValue (r .order)) ⌝ }
 {
     let refusal = refusal_on(day, body);

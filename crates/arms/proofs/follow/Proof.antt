@@ -2,7 +2,7 @@
 use borrow.Author.Needs.{needs}
 use mathlib.Core.Path.{_≡_, sym, _∙_, subst}
 use native.Mathlib.Omega.{arith}
-use Rattle.arms.specs.Orders.{orderNumber, orderValue, refusalOn}
+use Rattle.arms.specs.Orders.{orderNumber, orderValue, orderRefusal}
 use Rattle.arms.specs.Ranges.{IsRate}
 use Rattle.arms.proofs.Laws.{in-ranges, follow-held, follow-ends, follow-runs, hold-rate, run-rate}
 use Rattle.arms.proofs.follow.Statement.{statement}
@@ -15,7 +15,7 @@ returns : tie.Need-returns
 unfolding orderNumber orderValue
 returns c = let e = c .before .refusal-on .ensures in (rw e (sym (follow-held _ _ (λ k. c .if1 .taken (e ∙ k)))), hold-rate)
 
-accepted : (c : tie.Else1) → refusalOn (c .before .before .args .day) (c .before .before .args .body) ≡ 0
+accepted : (c : tie.Else1) → orderRefusal (c .before .before .args .day) (c .before .before .args .body) ≡ 0
 accepted c = sym (c .before .refusal-on .ensures) ∙ c .if1 .left
 
 returns-2 : tie.Need-returns-2

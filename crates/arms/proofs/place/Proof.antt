@@ -1,7 +1,7 @@
 -- `place` meets its contract: held where it is refused, else it goes to the angle, whose range and exact case are laws. Assumes nothing.
 use borrow.Author.Needs.{needs}
 use mathlib.Core.Path.{_≡_, sym, _∙_, subst}
-use Rattle.arms.specs.Orders.{orderNumber, orderValue, refusalOn}
+use Rattle.arms.specs.Orders.{orderNumber, orderValue, orderRefusal}
 use Rattle.arms.specs.Ranges.{IsAngle, ExactAngle}
 use Rattle.arms.proofs.Laws.{in-ranges, place-held, place-goes, hold-angle, go-angle, exact-angle}
 use Rattle.arms.proofs.place.Statement.{statement}
@@ -14,10 +14,10 @@ returns : tie.Need-returns
 unfolding orderNumber orderValue
 returns c =
     let e = c .before .refusal-on .ensures in
-    let h : refusalOn (c .before .before .args .day) (c .before .before .args .body) ≡ 0 → ⊥ = λ k. c .if1 .taken (e ∙ k) in
+    let h : orderRefusal (c .before .before .args .day) (c .before .before .args .body) ≡ 0 → ⊥ = λ k. c .if1 .taken (e ∙ k) in
     (rw e (sym (place-held _ _ h)), (hold-angle, λ k. absurd (h k)))
 
-accepted : (c : tie.Else1) → refusalOn (c .before .before .args .day) (c .before .before .args .body) ≡ 0
+accepted : (c : tie.Else1) → orderRefusal (c .before .before .args .day) (c .before .before .args .body) ≡ 0
 accepted c = sym (c .before .refusal-on .ensures) ∙ c .if1 .left
 
 angle-on-requires : tie.Need-angle-on-requires

@@ -1,7 +1,7 @@
 -- `graha_follow_order` meets its contract: the number of the answer's order.
 use borrow.Author.Needs.{needs}
 use mathlib.Core.Path.{ap, _∙_}
-use Rattle.arms.specs.Orders.{Numbers}
+use Rattle.arms.specs.Orders.{AnswerNumbers}
 use Rattle.host.proofs.orders.graha_follow_order.Statement.{statement}
 use Rattle.host.proofs.orders.graha_follow_order.Tie as tie
 
@@ -12,7 +12,7 @@ number-requires : tie.Need-number-requires
 number-requires c κs = search needs
 
 returns : tie.Need-returns
-returns c = c .number .ensures ∙ ap (λ (n : Numbers). n .order) (c .before .follow .ensures .0)
+returns c = c .number .ensures ∙ ap (λ (n : AnswerNumbers). n .order) (c .before .follow .ensures .0)
 
 pub graha-follow-order-spec : {M : Type 1} → statement M
 graha-follow-order-spec = tie.close (tie.spec follow-requires number-requires returns)

@@ -1,7 +1,7 @@
 -- `graha_follow_rate` meets its contract: the value of the answer's order, with its range.
 use borrow.Author.Needs.{needs}
 use mathlib.Core.Path.{sym, ap, _∙_, subst}
-use Rattle.arms.specs.Orders.{Numbers}
+use Rattle.arms.specs.Orders.{AnswerNumbers}
 use Rattle.arms.specs.Ranges.{IsRate}
 use Rattle.host.proofs.orders.graha_follow_rate.Statement.{statement}
 use Rattle.host.proofs.orders.graha_follow_rate.Tie as tie
@@ -16,7 +16,7 @@ returns : tie.Need-returns
 returns c =
     let v = c .value .ensures in
     let p = c .before .follow .ensures in
-    (v ∙ ap (λ (n : Numbers). n .value) (p .0), subst IsRate (sym v) (p .1))
+    (v ∙ ap (λ (n : AnswerNumbers). n .value) (p .0), subst IsRate (sym v) (p .1))
 
 pub graha-follow-rate-spec : {M : Type 1} → statement M
 graha-follow-rate-spec = tie.close (tie.spec follow-requires value-requires returns)

@@ -1,7 +1,7 @@
 -- `graha_follow_result` meets its contract: the refusal of the answer's numbers.
 use borrow.Author.Needs.{needs}
 use mathlib.Core.Path.{ap}
-use Rattle.arms.specs.Orders.{Numbers}
+use Rattle.arms.specs.Orders.{AnswerNumbers}
 use Rattle.host.proofs.orders.graha_follow_result.Statement.{statement}
 use Rattle.host.proofs.orders.graha_follow_result.Tie as tie
 
@@ -9,7 +9,7 @@ follow-requires : tie.Need-follow-requires
 follow-requires c κs = search needs
 
 returns : tie.Need-returns
-returns c = ap (λ (n : Numbers). n .refusal) (c .follow .ensures .0)
+returns c = ap (λ (n : AnswerNumbers). n .refusal) (c .follow .ensures .0)
 
 pub graha-follow-result-spec : {M : Type 1} → statement M
 graha-follow-result-spec = tie.close (tie.spec follow-requires returns)
