@@ -4,6 +4,14 @@
 
 #include "grahalaghava.h"
 
+#if __STDC_VERSION__ >= 201112L
+/* A list's length has 64 bits in the call, also on a machine whose size_t has 32. */
+_Static_assert(_Generic(&graha_search,
+                        uint32_t (*)(uint32_t, uint32_t, uint32_t, uint32_t, uint32_t, uint8_t *, uint64_t): 1,
+                        default: 0),
+               "the length of a list has 64 bits");
+#endif
+
 /* The search: all days of the table, a Sun arc of one degree from 0, Mondays. */
 enum { FIRST = 0, LAST = 401599, SUN_START = 0, SUN_WIDTH = 3600, WEEKDAY = 0 };
 

@@ -123,7 +123,7 @@ double graha_follow_rate(uint32_t day, uint32_t body);
  * four is never written. Result 2: first or last above 401599; 5: last before first; 6: weekday, start or width out of
  * range; 7: more days than list_len / 4. */
 uint32_t graha_search(uint32_t first, uint32_t last, uint32_t sun_start, uint32_t sun_width, uint32_t weekday,
-                      uint8_t *list, size_t list_len);
+                      uint8_t *list, uint64_t list_len);
 /* How many days the search finds, however long a list: for results 0 and 7, else 0. */
 uint32_t graha_search_length(uint32_t first, uint32_t last, uint32_t sun_start, uint32_t sun_width, uint32_t weekday);
 /* How many days the search looks at to find them: for results 0 and 7, else 0. */

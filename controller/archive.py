@@ -1,0 +1,165 @@
+"""How the controller's archives are made and what they are held to; build is the command."""
+import os
+import pathlib
+import platform
+import shutil
+import subprocess
+
+import header
+import module
+from objects import Object, total
+
+ROOT = pathlib.Path(__file__).resolve().parent.parent
+OUT = ROOT / "target" / "controller"
+
+
+class Failed(Exception):
+    pass
+
+
+class Target:
+    """What clang is told, what the archive may want of the compiler's runtime, and its limits: bytes of code and constants, and of stack."""
+
+    def __init__(self, words, wants, size, stack):
+        self.words, self.wants, self.size, self.stack = words, wants, size, stack
+
+
+# What the back end may call: memory functions, division of 64 bits, and 64-bit floats where the machine has none.
+MEMORY = {"memcpy", "memmove", "memset"}
+ARM_MEMORY = {f"__aeabi_{name}{align}" for name in ("memcpy", "memmove", "memset", "memclr") for align in ("", "4", "8")}
+ARM = MEMORY | ARM_MEMORY | {"__aeabi_uldivmod", "__aeabi_ldivmod", "__aeabi_uidiv", "__aeabi_uidivmod", "__aeabi_idiv", "__aeabi_idivmod"}
+ARM_FLOATS = {f"__aeabi_{name}" for name in ("dadd", "dsub", "dmul", "ddiv", "dcmpeq", "dcmplt", "dcmple", "dcmpge", "dcmpgt", "dcmpun", "i2d", "ui2d", "l2d", "ul2d", "d2iz", "d2uiz", "d2lz", "d2ulz")}
+RISCV = MEMORY | {"__udivdi3", "__umoddi3", "__divdi3", "__moddi3"}
+RISCV_FLOATS = {f"__{name}" for name in ("adddf3", "subdf3", "muldf3", "divdf3", "eqdf2", "nedf2", "ltdf2", "ledf2", "gedf2", "gtdf2", "unorddf2", "floatsidf", "floatunsidf", "floatdidf",
+                                         "floatundidf", "fixdfsi", "fixunsdfsi", "fixdfdi", "fixunsdfdi")}
+KIB = 1024
+TARGETS = {
+    "cortex-m4": Target(["--target=thumbv7em-none-eabihf", "-mcpu=cortex-m4"], ARM | ARM_FLOATS, 16 * KIB, 1536),
+    "armv7": Target(["--target=armv7-linux-gnueabihf", "-fPIC"], ARM, 16 * KIB, 1536),
+    "aarch64": Target(["--target=aarch64-linux-gnu", "-fPIC"], MEMORY, 16 * KIB, 1536),
+    "rv32": Target(["--target=riscv32-unknown-elf", "-march=rv32imac", "-mabi=ilp32"], RISCV | RISCV_FLOATS, 16 * KIB, 1536),
+}
+FLAGS = ["-Os", "-ffunction-sections", "-fdata-sections", "-fstack-size-section", "-fno-asynchronous-unwind-tables", "-Wno-override-module"]
+
+# Every function of these crates is put into its callers. So the compiler sees in the host's call that its query asks for a Sun arc and a weekday alone: what the
+# call never comes to falls away, and with it the copies of the query on the stack.
+INLINED = {"search", "query"}
+
+# A function of the runtime is not in the archive; so many bytes of stack are reckoned for each. (libgcc's division of 64 bits takes 48 on a Cortex-M4.)
+RUNTIME_STACK = 128
+
+
+def run(words, what, **more):
+    """Runs a command whose output matters only where it fails."""
+    done = subprocess.run(words, stdout=subprocess.PIPE, stderr=subprocess.STDOUT, text=True, **more)
+    if done.returncode:
+        raise Failed(f"{what}:\n{done.stdout.rstrip()}")
+    return done.stdout.strip()
+
+
+def link_all(folder, links, but):
+    """Links to all that a folder holds, but for one name."""
+    links.mkdir()
+    for entry in folder.iterdir():
+        if entry.name != but:
+            (links / entry.name).symlink_to(entry)
+
+
+def proved_module():
+    """The kit's clang, and the module that rt compiles by it once it has proved the library. rt is given a folder of links to its kit, in which clang is a script that keeps the
+    module and calls the real one. (The script has an empty environment, so all names in it are whole.)"""
+    kit, links, kept = pathlib.Path(run(["rt", "doc"], "rt does not say where its kit is")).parent.parent, OUT / "kit", OUT / "module.bc"
+    way = ["on", platform.machine(), "toolchain", "bin", "clang"]
+    clang, script = kit.joinpath(*way), links.joinpath(*way)
+    for depth, name in enumerate(way):
+        link_all(kit.joinpath(*way[:depth]), links.joinpath(*way[:depth]), name)
+    script.write_text(f"""#!/bin/sh
+for word; do
+    case $word in
+    *.bc)
+        [ ! -e '{kept}' ] || {{ echo 'controller/build: a second module' >&2; exit 1; }}
+        /bin/cp "$word" '{kept}' || exit 1
+        ;;
+    esac
+done
+exec '{clang}' "$@"
+""", encoding="utf-8")
+    script.chmod(0o755)
+    try:
+        run(["rt", "staticlib", "host"], "the library is not proved", cwd=ROOT, env={**os.environ, "RATTLE_HOME": str(links)})
+    finally:
+        shutil.rmtree(links)
+    if not kept.is_file():
+        raise Failed("rt compiled no module")
+    return clang, kept
+
+
+def portable_module(clang, kept):
+    """The module as text, without what names the machine that rt compiles for, held to what it may hold; and the list of functions to be inlined."""
+    text, portable, inlined = OUT / "module.ll", OUT / "portable.ll", OUT / "inlined.csv"
+    run([clang, "-x", "ir", "-S", "-emit-llvm", "-Xclang", "-disable-llvm-passes", kept, "-o", text], "the module cannot be read")
+    written = module.portable(text.read_text(encoding="utf-8"))
+    faults = module.faults(written)
+    if faults:
+        raise Failed("\n".join(["the module depends on the machine:", *faults]))
+    portable.write_text(written, encoding="utf-8")
+    inlined.write_text("".join(f"{name},alwaysinline\n" for name in module.names_of(written, INLINED)), encoding="utf-8")
+    return portable, inlined
+
+
+def held(name, target, host, calls):
+    """What is printed of an object, and its faults."""
+    sizes, deepest = host.sizes(), host.deepest(RUNTIME_STACK)
+    size, stack = sizes["code"] + sizes["constants"], total(deepest)
+    lines = [
+        f"{name}: {size} bytes of code and constants (at most {target.size}), {sizes['data']} of data, {sizes['bss']} of bss",
+        f"{name}: {stack} bytes of stack at most (at most {target.stack}): " + ", ".join(f"{function} {frame}" for function, frame in deepest),
+        f"{name}: wants {', '.join(sorted(host.wanted())) or 'nothing'}",
+    ]
+    faults = [f"the archive lacks {call}, which the header declares" for call in sorted(calls - host.defined())]
+    faults += [f"the archive has {symbol}, which the header does not declare" for symbol in sorted(host.defined() - calls)]
+    faults += [f"it wants {symbol}, which is not on the list" for symbol in sorted(host.wanted() - target.wants)]
+    faults += [f"it has {sizes[part]} bytes of {part}" for part in ("data", "bss") if sizes[part]]
+    faults += [f"its code and constants pass the limit of {target.size} bytes"] if size > target.size else []
+    faults += [f"its stack passes the limit of {target.stack} bytes"] if stack > target.stack else []
+    return lines, [f"{name}: {fault}" for fault in faults]
+
+
+def compiled(clang, portable, inlined, target, made):
+    run([clang, *target.words, *FLAGS, "-mllvm", f"-forceattrs-csv-path={inlined}", "-x", "ir", "-c", portable, "-o", made], "clang refuses the module")
+    return Object(made.read_bytes())
+
+
+def hold_example(clang, target):
+    """The example for a controller, which has a static assertion on the header, compiles for the target. cc has the header files that need no C library."""
+    headers = run(["cc", "-print-file-name=include"], "cc does not say where its header files are")
+    words = ["-std=c11", "-ffreestanding", "-nostdinc", "-isystem", headers, "-I", ROOT / "include", "-Wall", "-Wextra", "-pedantic", "-Werror", "-fsyntax-only"]
+    run([clang, *target.words, *words, ROOT / "examples" / "controller.c"], "examples/controller.c does not compile")
+
+
+def build(clang, portable, inlined, name):
+    """Makes the archive of a target, and hands back what is printed of it. Where anything fails there is none."""
+    target, folder = TARGETS[name], OUT / name
+    folder.mkdir()
+    made = folder / "host.o"
+    host = compiled(clang, portable, inlined, target, made)
+    lines, faults = held(name, target, host, {call.name for call in header.calls()})
+    if faults:
+        raise Failed("\n".join(lines + faults))
+    hold_example(clang, target)
+    run([clang.with_name("llvm-ar"), "rcsD", folder / "libhost.a", made], "the archive cannot be made")
+    made.unlink()
+    return lines
+
+
+def build_all(names):
+    unknown = [name for name in names if name not in TARGETS]
+    if unknown:
+        raise Failed(f"{unknown[0]} is no target; there are {', '.join(TARGETS)}, and all of them by the word all")
+    shutil.rmtree(OUT, ignore_errors=True)
+    OUT.mkdir(parents=True)
+    clang, kept = proved_module()
+    portable, inlined = portable_module(clang, kept)
+    for name in names:
+        for line in build(clang, portable, inlined, name):
+            yield line
