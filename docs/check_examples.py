@@ -8,7 +8,7 @@
 Of any other block each line must be a command of this repository, or the block must stand in the file that is linked right before it; a formula stands
 in a block marked ```text.
 
-  python3 docs/check_examples.py    after the programs and the archives host and records are built: prints a line for each example that differs,
+  python3 docs/check_examples.py    after the programs, the archives host and records and the controller's are built: prints a line for each example that differs,
                                     then the counts, and exits with 1 where one differs or a page has none"""
 import os
 import pathlib
@@ -19,7 +19,7 @@ import tempfile
 import textwrap
 
 ROOT = pathlib.Path(__file__).resolve().parent.parent
-PAGES = ["README.md", "docs/drift.md", "docs/engraving.md", "docs/find.md", "docs/host.md", "docs/month.md", "docs/rules.md", "docs/signs.md", "docs/why.md"]
+PAGES = ["README.md", "docs/controller.md", "docs/drift.md", "docs/engraving.md", "docs/find.md", "docs/host.md", "docs/month.md", "docs/rules.md", "docs/signs.md", "docs/why.md"]
 ARCHIVES = ["target/staticlib/libhost.a", "target/staticlib/librecords.a"]
 BLOCK = re.compile(r"^```(?P<language>\w*)\n(?P<fenced>.*?)^```$|(?P<indented>(?:^ {4}[^\n]*\n(?:\n+(?= {4}))?)+)", re.M | re.S)
 CLAIM = re.compile(r"`(graha_\w+\([\w,\s]*\))\s=\s(\d+)`")
