@@ -11,6 +11,8 @@ from objects import Object, total
 
 ROOT = pathlib.Path(__file__).resolve().parent.parent
 OUT = ROOT / "target" / "controller"
+# Where the kit's clang stands in its folder.
+CLANG = ["on", platform.machine(), "toolchain", "bin", "clang"]
 
 
 class Failed(Exception):
@@ -65,14 +67,18 @@ def link_all(folder, links, but):
             (links / entry.name).symlink_to(entry)
 
 
+def kit():
+    """The folder of the kit, from the path of its guide."""
+    return pathlib.Path(run(["rt", "doc"], "rt does not say where its kit is")).parent.parent
+
+
 def proved_module():
-    """The kit's clang, and the module that rt compiles by it once it has proved the library. rt is given a folder of links to its kit, in which clang is a script that keeps the
-    module and calls the real one. (The script has an empty environment, so all names in it are whole.)"""
-    kit, links, kept = pathlib.Path(run(["rt", "doc"], "rt does not say where its kit is")).parent.parent, OUT / "kit", OUT / "module.bc"
-    way = ["on", platform.machine(), "toolchain", "bin", "clang"]
-    clang, script = kit.joinpath(*way), links.joinpath(*way)
-    for depth, name in enumerate(way):
-        link_all(kit.joinpath(*way[:depth]), links.joinpath(*way[:depth]), name)
+    """The module that rt compiles once it has proved the library. rt is given a folder of links to its kit, in which clang is a script that keeps the module and calls the real
+    one. (The script has an empty environment, so all names in it are whole.)"""
+    real, links, kept = kit(), OUT / "kit", OUT / "module.bc"
+    clang, script = real.joinpath(*CLANG), links.joinpath(*CLANG)
+    for depth, name in enumerate(CLANG):
+        link_all(real.joinpath(*CLANG[:depth]), links.joinpath(*CLANG[:depth]), name)
     script.write_text(f"""#!/bin/sh
 for word; do
     case $word in
@@ -91,7 +97,7 @@ exec '{clang}' "$@"
         shutil.rmtree(links)
     if not kept.is_file():
         raise Failed("rt compiled no module")
-    return clang, kept
+    return kept
 
 
 def portable_module(clang, kept):
@@ -101,7 +107,7 @@ def portable_module(clang, kept):
     written = module.portable(text.read_text(encoding="utf-8"))
     faults = module.faults(written)
     if faults:
-        raise Failed("\n".join(["the module depends on the machine:", *faults]))
+        raise Failed("\n".join([f"the module depends on the machine, {len(faults)} times; first:", *faults[:10]]))
     portable.write_text(written, encoding="utf-8")
     inlined.write_text("".join(f"{name},alwaysinline\n" for name in module.names_of(written, INLINED)), encoding="utf-8")
     return portable, inlined
@@ -158,8 +164,8 @@ def build_all(names):
         raise Failed(f"{unknown[0]} is no target; there are {', '.join(TARGETS)}, and all of them by the word all")
     shutil.rmtree(OUT, ignore_errors=True)
     OUT.mkdir(parents=True)
-    clang, kept = proved_module()
-    portable, inlined = portable_module(clang, kept)
+    clang = kit().joinpath(*CLANG)
+    portable, inlined = portable_module(clang, proved_module())
     for name in names:
         for line in build(clang, portable, inlined, name):
             yield line

@@ -52,12 +52,11 @@ def replay(number, call):
     lines += [f"    uint64_t came = {f'bits_of({came})' if call.result == 'double' else came};"]
     if every_day:
         lines += [f"    see(&days_{number}, day);"]
-    holds = ["came == expected"] + [f"same_list(\"{name}\", {length})" for length in lists.values()]
-    lines += [f"    if ({' && '.join(holds)})", "        return 1;"]
+    same = ["same(came, expected)"] + [f"same_list({length})" for length in lists.values()]
+    lines += [f"    int holds = {' && '.join(same)};", "    if (!holds)"]
     form = ", ".join({"double": "%a", "uint8_t *": word}.get(kind, "%llu") for kind, word in call.parameters)
     values = [word if kind == "double" else f"(unsigned long long){word}" for kind, word in call.parameters if kind != "uint8_t *"]
-    lines += [f"    same(\"{name}\", came, expected);", f'    printf("the call is {name}({form})\\n", {", ".join(values)});', "    return 0;", "}", ""]
-    return lines
+    return lines + [f'        printf("in {name}({form})\\n", {", ".join(values)});', "    return holds;", "}", ""]
 
 
 def table(declared, entries):

@@ -54,10 +54,10 @@ static inline uint64_t bits_of(double number)
 }
 
 /* What was handed back, here and on x86-64. */
-static int same(const char *call, uint64_t came, uint64_t expected)
+static int same(uint64_t came, uint64_t expected)
 {
     if (came != expected)
-        printf("%s hands back %llu, and on x86-64 %llu\n", call, (unsigned long long)came, (unsigned long long)expected);
+        printf("%llu is handed back, and on x86-64 %llu, ", (unsigned long long)came, (unsigned long long)expected);
     return came == expected;
 }
 
@@ -86,7 +86,7 @@ static uint8_t *lend(uint64_t length)
 }
 
 /* Every byte: those that x86-64 wrote, and the pattern in all others. */
-static int same_list(const char *call, uint64_t length)
+static int same_list(uint64_t length)
 {
     uint64_t written = take(8);
     size_t start = list_start(length), all = start + (size_t)length + GUARD;
@@ -97,24 +97,24 @@ static int same_list(const char *call, uint64_t length)
     for (size_t place = 0; place < all; place++) {
         uint8_t expected = place >= start && place - start < written ? next_byte() : pattern(place);
         if (memory[place] != expected) {
-            printf("%s leaves %u in byte %ld of the list, and on x86-64 %u\n", call, memory[place], (long)place - (long)start, expected);
+            printf("byte %ld of the list is %u, and on x86-64 %u, ", (long)place - (long)start, memory[place], expected);
             return 0;
         }
     }
     return 1;
 }
 
-/* The days on which a call was made that takes a day alone. */
+/* The days on which a call was made that takes a day alone, and how many they are. */
 struct days {
     unsigned char seen[DAYS];
-    uint32_t left;
+    uint32_t count;
 };
 
 static void see(struct days *days, uint32_t day)
 {
     if (day < DAYS && !days->seen[day]) {
         days->seen[day] = 1;
-        days->left++;
+        days->count++;
     }
 }
 
@@ -131,7 +131,7 @@ int main(void)
             return 1;
     }
     for (int number = 0; number < CALLS; number++) {
-        if (made[number] == 0 || (EVERY_DAY[number] != NULL && EVERY_DAY[number]->left != DAYS)) {
+        if (made[number] == 0 || (EVERY_DAY[number] != NULL && EVERY_DAY[number]->count != DAYS)) {
             printf("%s was not called%s\n", NAMES[number], made[number] == 0 ? "" : " on every day");
             return 1;
         }
