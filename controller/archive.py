@@ -20,7 +20,7 @@ class Failed(Exception):
 
 
 class Target:
-    """What clang is told, what the archive may want of the compiler's runtime, and its limits: bytes of code and constants, and of stack."""
+    """What clang is told, what the archive may want of the compiler's runtime, and its limits: it stays under so many bytes of code and constants, and of stack."""
 
     def __init__(self, words, wants, size, stack):
         self.words, self.wants, self.size, self.stack = words, wants, size, stack
@@ -118,16 +118,16 @@ def held(name, target, host, calls):
     sizes, deepest = host.sizes(), host.deepest(RUNTIME_STACK)
     size, stack = sizes["code"] + sizes["constants"], total(deepest)
     lines = [
-        f"{name}: {size} bytes of code and constants (at most {target.size}), {sizes['data']} of data, {sizes['bss']} of bss",
-        f"{name}: {stack} bytes of stack at most (at most {target.stack}): " + ", ".join(f"{function} {frame}" for function, frame in deepest),
+        f"{name}: {size} bytes of code and constants (under {target.size}), {sizes['data']} of data, {sizes['bss']} of bss",
+        f"{name}: at most {stack} bytes of stack (under {target.stack}): " + ", ".join(f"{function} {frame}" for function, frame in deepest),
         f"{name}: wants {', '.join(sorted(host.wanted())) or 'nothing'}",
     ]
     faults = [f"the archive lacks {call}, which the header declares" for call in sorted(calls - host.defined())]
     faults += [f"the archive has {symbol}, which the header does not declare" for symbol in sorted(host.defined() - calls)]
     faults += [f"it wants {symbol}, which is not on the list" for symbol in sorted(host.wanted() - target.wants)]
     faults += [f"it has {sizes[part]} bytes of {part}" for part in ("data", "bss") if sizes[part]]
-    faults += [f"its code and constants pass the limit of {target.size} bytes"] if size > target.size else []
-    faults += [f"its stack passes the limit of {target.stack} bytes"] if stack > target.stack else []
+    faults += [f"its code and constants are not under {target.size} bytes"] if size >= target.size else []
+    faults += [f"its stack is not under {target.stack} bytes"] if stack >= target.stack else []
     return lines, [f"{name}: {fault}" for fault in faults]
 
 

@@ -6,6 +6,7 @@
 import pathlib
 import sys
 
+sys.dont_write_bytecode = True
 import header
 
 WIDTH = {"uint32_t": 4, "uint64_t": 8, "double": 8}
