@@ -136,11 +136,11 @@ def compiled(clang, portable, inlined, target, made):
     return Object(made.read_bytes())
 
 
-def hold_example(clang, target):
+def hold_example(clang, target, root):
     """The example for a controller, which has a static assertion on the header, compiles for the target. cc has the header files that need no C library."""
     headers = run(["cc", "-print-file-name=include"], "cc does not say where its header files are")
-    words = ["-std=c11", "-ffreestanding", "-nostdinc", "-isystem", headers, "-I", ROOT / "include", "-Wall", "-Wextra", "-pedantic", "-Werror", "-fsyntax-only"]
-    run([clang, *target.words, *words, ROOT / "examples" / "controller.c"], "examples/controller.c does not compile")
+    words = ["-std=c11", "-ffreestanding", "-nostdinc", "-isystem", headers, "-I", root / "include", "-Wall", "-Wextra", "-pedantic", "-Werror", "-fsyntax-only"]
+    run([clang, *target.words, *words, root / "examples" / "controller.c"], "examples/controller.c does not compile")
 
 
 def build(clang, portable, inlined, name):
@@ -152,7 +152,7 @@ def build(clang, portable, inlined, name):
     lines, faults = held(name, target, host, {call.name for call in header.calls()})
     if faults:
         raise Failed("\n".join(lines + faults))
-    hold_example(clang, target)
+    hold_example(clang, target, ROOT)
     run([clang.with_name("llvm-ar"), "rcsD", folder / "libhost.a", made], "the archive cannot be made")
     made.unlink()
     return lines
