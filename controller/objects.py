@@ -53,7 +53,7 @@ class Object:
         self.symbols = self.read_symbols()
         self.functions = {}
         for symbol in self.symbols:
-            if symbol.kind == FUNCTION and symbol.section is not UNDEFINED:
+            if symbol.kind == FUNCTION and symbol.section != UNDEFINED:
                 if symbol.section in self.functions:
                     raise ValueError(f"{symbol.name} and {self.functions[symbol.section]} stand in one section")
                 self.functions[symbol.section] = symbol.name
@@ -109,18 +109,18 @@ class Object:
 
     def defined(self):
         """The functions that other objects can call."""
-        return {symbol.name for symbol in self.symbols if symbol.section is not UNDEFINED and not symbol.local}
+        return {symbol.name for symbol in self.symbols if symbol.section != UNDEFINED and not symbol.local}
 
     def wanted(self):
         """The symbols that another object has to define."""
-        return {symbol.name for symbol in self.symbols if symbol.section is UNDEFINED and symbol.name and not symbol.local}
+        return {symbol.name for symbol in self.symbols if symbol.section == UNDEFINED and symbol.name and not symbol.local}
 
     def called(self, function):
         """The sections of the functions that a function calls, and the symbols of other objects that it wants."""
         inside, outside, todo, seen = set(), set(), [function], {function}
         while todo:
             for symbol in self.reached.get(todo.pop(), []):
-                if symbol.section is UNDEFINED:
+                if symbol.section == UNDEFINED:
                     outside |= {symbol.name} - {""}
                 elif symbol.section in self.functions:
                     inside.add(symbol.section)
