@@ -132,7 +132,7 @@ uint32_t graha_search_looked(uint32_t first, uint32_t last, uint32_t sun_start, 
 /* Every day after first, up to last, on which the mean Sun stands in another sign of 30 degrees (108000 seconds) than the day before. The list, its
  * length and the bytes behind the days are as in the search. Result 2: first or last above 401599; 5: last before first; 7: more days than list_len / 4.
  * A list of (last - first + 1) / 30 + 1 entries always does. */
-uint32_t graha_sign_entries(uint32_t first, uint32_t last, uint8_t *list, size_t list_len);
+uint32_t graha_sign_entries(uint32_t first, uint32_t last, uint8_t *list, uint64_t list_len);
 /* How many these days are, however long a list: for results 0 and 7, else 0. */
 uint32_t graha_sign_entries_length(uint32_t first, uint32_t last);
 
