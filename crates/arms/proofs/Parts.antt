@@ -1,17 +1,16 @@
 -- A body's whole seconds by its steps are those of its row: on each day of a cycle its motion in parts of a second, rounded up, gives the same whole seconds as the exact motion;
 -- by what the quotients leave over. And within a cycle the way forwards to the next day is what the day moves.
 -- Assumes nothing.
-use mathlib.Core.Path.{_≡_, refl, sym, ap, _∙_}
+use mathlib.Core.Path.{_≡_, sym, ap, _∙_}
 use Prim.Native.Nat.{ℕ, _+_, _*_, _-_, _/_, _%_, _<_, _≤_}
 use native.Mathlib.Nat.{div-add-mod', mod-lt, mul-le-mul, lt-of-mul-lt-mul-right}
 use native.Mathlib.Omega.{arith}
 use lib.ListN.{getD}
-use borrow.Author.Tests.{lt-ltb, le-ltb}
 use Rattle.days.specs.Days.{lastDay, pairAt}
 use Rattle.days.proofs.Laws.{pair-in-range}
 use Rattle.integers.specs.RoundedUp.{roundedUp}
 use Rattle.integers.proofs.RoundedUp.{rounded-up}
-use Rattle.longitudes.specs.Longitudes.{circle, table, differenceOf}
+use Rattle.longitudes.specs.Longitudes.{circle, differenceOf}
 use Rattle.longitudes.specs.declared.Motion.{Motion}
 use Rattle.longitudes.proofs.Motions.{motions, none, reckoned}
 use Rattle.longitudes.proofs.Table.{remainder-at}

@@ -36,9 +36,6 @@ within-half from to = go (decLt (differenceOf to from) half)
     go (no h) = rw (way-back from to (differenceOf to from) refl (omega arith)) (omega (arith, difference-small to from))
 
 -- ---- the way forwards as a signed number, and a circle less
-pub fits-forwards : (x : ℕ) → x < circle → SFits w32 (pos x)
-fits-forwards x h = record { sfits = lt-of-lt-of-le h (lit≤ tt) }
-
 pub signed : (x : ℕ) → x < circle → toZ w32 x ≡ pos x
 signed x h = toZ-pos w32 (lt-of-lt-of-le h (lit≤ tt))
 

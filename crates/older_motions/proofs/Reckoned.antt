@@ -7,15 +7,12 @@ use native.Mathlib.Nat.{mul-le-mul}
 use Rattle.days.specs.Days.{cycleDays, lastDay}
 use Rattle.longitudes.specs.Longitudes.{circle}
 use Rattle.older_motions.specs.declared.CodedMotion.{CodedMotion}
-use Rattle.older_motions.specs.OlderMotions.{divisorOf, wholeCircle, aheadOn}
+use Rattle.older_motions.specs.OlderMotions.{wholeCircle, aheadOn}
 use Rattle.older_motions.specs.Drifts.{motionOf, Sizes}
 use Rattle.older_motions.proofs.Ahead.{mean-small, older-small, ahead-is, ahead-next}
 
 pub whole-positive : (c : CodedMotion) → Sizes c → 0 < wholeCircle (motionOf c)
 whole-positive c s = omega (arith, mul-le-mul {n₁ = 1} {m₁ = 1} {n₂ = c .mean .q} {m₂ = c .days} (s .divisor) (s .span))
-
-pub divisor-small : (c : CodedMotion) → Sizes c → divisorOf (motionOf c) < 250000000000000000
-divisor-small c s = omega (arith, s .whole)
 
 -- of the day n, with whole circles put on for the cycle's amount
 pub record Reckoned (c : CodedMotion) (n : ℕ) : Type 0 where
