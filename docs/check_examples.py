@@ -1,15 +1,17 @@
 #!/usr/bin/env python3
 """Runs every example of the pages below and compares what is printed, byte for byte, with what the page says. An example is
 
-- a block whose first line begins with `$ `: each such line is a command, run in the repository's folder, and the lines behind it are all that it writes;
-- a block, the word `prints` alone, and a second block: the first is a torn page for ./catalogue, or a whole C program (```c) for the archives;
+- a block whose first line begins with `$ `: each such line is a command, run in the repository's folder, and the lines behind it are
+  all that it writes;
+- a block, the word `prints` alone, and a second block: the first is a torn page for ./catalogue, or a whole C program (```c) for the
+  archives;
 - a call and its number in the text, `graha_tithi(33649) = 14`.
 
-Of any other block each line must be a command of this repository, or the block must stand in the file that is linked right before it; a formula stands
-in a block marked ```text.
+Of any other block each line must be a command of this repository, or the block must stand in the file that is linked right before it; a
+formula stands in a block marked ```text.
 
-  python3 docs/check_examples.py    after the programs, the archives host and records and the controller's are built: prints a line for each example that differs,
-                                    then the counts, and exits with 1 where one differs or a page has none"""
+  python3 docs/check_examples.py    after the programs, the archives host and records and the controller's are built: prints a line for
+                                    each example that differs, then the counts, and exits with 1 where one differs or a page has none"""
 import os
 import pathlib
 import re
@@ -19,7 +21,7 @@ import tempfile
 import textwrap
 
 ROOT = pathlib.Path(__file__).resolve().parent.parent
-PAGES = ["README.md", "docs/controller.md", "docs/drift.md", "docs/engraving.md", "docs/find.md", "docs/host.md", "docs/month.md", "docs/rules.md", "docs/signs.md", "docs/why.md"]
+PAGES = ["README.md", *(f"docs/{name}.md" for name in "controller drift engraving find host month rules saka signs why".split())]
 ARCHIVES = ["target/staticlib/libhost.a", "target/staticlib/librecords.a"]
 BLOCK = re.compile(r"^```(?P<language>\w*)\n(?P<fenced>.*?)^```$|(?P<indented>(?:^ {4}[^\n]*\n(?:\n+(?= {4}))?)+)", re.M | re.S)
 CLAIM = re.compile(r"`(graha_\w+\([\w,\s]*\))\s=\s(\d+)`")

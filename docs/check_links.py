@@ -1,7 +1,7 @@
 #!/usr/bin/env python3
-"""Holds the links of README.md and docs/*.md to what they link: every relative link points to a file that exists, and to a heading of it where it names
-one; where a page says `name` in [file](path), or several names with commas between them, the file defines each; and in a line that lists
-definitions, laws or calls no name is without its file.
+"""Holds the links of README.md and docs/*.md to what they link: every relative link points to a file that exists, and to a heading of it
+where it names one; where a page says `name` in [file](path), or several names with commas between them, the file defines each; and in an
+item that lists definitions, laws or calls no name is without its file.
 
   python3 docs/check_links.py    prints a line for each link that does not hold and then the counts, and exits with 1 where there is one"""
 import pathlib
@@ -10,8 +10,8 @@ import sys
 
 ROOT = pathlib.Path(__file__).resolve().parent.parent
 LINK = re.compile(r"\]\(([^)\s#]*)(?:#([^)\s]+))?\)")
-NAMED = re.compile(r"((?:`[^`]+`(?:, | and | to ))*`[^`]+`) in \[[^\]]*\]\(([^)\s#]+)\)")
-LISTING = re.compile(r"^- (?:Definition|Laws?|Call|C): .*$", re.M)
+NAMED = re.compile(r"((?:`[^`]+`(?:,\s+|\s+and\s+|\s+to\s+))*`[^`]+`)\s+in\s+\[[^\]]*\]\(([^)\s#]+)\)")
+LISTING = re.compile(r"^- (?:Definition|Laws?|Call|C): .*(?:\n  .*)*", re.M)
 DEFINED = {
     ".antt": r"^\s*(?:unfoldable |abbrev )?(?:pub )?(?:record |data )?{}(?=[\s({{])",
     ".rt": r"\b(?:fn|const|struct|enum) {}\b",
@@ -40,8 +40,8 @@ def faults(page, text):
             for name in re.findall(r"`([^`]+)`", names):
                 if not re.search(DEFINED[path.suffix].format(re.escape(name.split("::")[-1])), source, re.M):
                     yield f"{target} does not define `{name}`"
-    for line in LISTING.findall(text):
-        for name in re.findall(r"`([^`]+)`", NAMED.sub("", line)):
+    for item in LISTING.findall(text):
+        for name in re.findall(r"`([^`]+)`", NAMED.sub("", item)):
             yield f"`{name}` is listed without its file"
 
 
