@@ -1,19 +1,22 @@
 #!/usr/bin/env python3
-"""Holds the must-fail edits to what they are for. An edit may hold several wrong answers, each under a comment of its own; that the
-crate is refused says of one of them that it is, so the prover's log is read for each:
+"""Holds the must-fail edits to what they are for. An edit may hold several wrong answers, each under a comment of its
+own; that the crate is refused says of one of them that it is, so the prover's log is read for each:
 
-- every function that the edit changes is refused, by a fact that fails in that function's own proof (or by `search`, where it has none);
-- the prover says of each fact of a proof whether it fails, so that a function may be given several wrong answers at once: then the comment of each
-  ends with the name of a fact in parentheses, which fails and is no other's (so too for several changes of meanings);
-- where the edit changes what a function promises too, or brings a new one, it may be proved: then a fact fails in a function that names it, or in one
-  that is called beside it;
-- where it changes a constant (or a struct), a fact fails in the proof of a function that names it or a constant made of it; where a meaning or a law, in some proof.
+- every function that the edit changes is refused, by a fact that fails in that function's own proof (or by `search`,
+  where it has none);
+- the prover says of each fact of a proof whether it fails, so that a function may be given several wrong answers at
+  once: then the comment of each ends with the name of a fact in parentheses, which fails and is no other's (so too for
+  several changes of meanings);
+- where the edit changes what a function promises too, or brings a new one, it may be proved: then a fact fails in a
+  function that names it, or in one that is called beside it;
+- where it changes a constant (or a struct), a fact fails in the proof of a function that names it or a constant made of
+  it; where a meaning or a law, in some proof.
 
-A proof that no longer fits the code (a name that is not there, a place of the code taken for another, a step that hangs on a refused one) is no fact. docs/contracts.md must
-name every edit, and no edit that is not there.
+A proof that no longer fits the code (a name that is not there, a place of the code taken for another, a step that hangs
+on a refused one) is no fact. docs/contracts.md must name every edit, and no edit that is not there.
 
-  python3 docs/check_edits.py    after `rt ci` or `rt must-fail`, whose logs it reads: prints a line for each complaint and then the counts,
-                                 and exits with 1 where there is a complaint"""
+  python3 docs/check_edits.py    after `rt ci` or `rt must-fail`, whose logs it reads: prints a line for each complaint
+                                 and then the counts, and exits with 1 where there is a complaint"""
 import pathlib
 import re
 import sys
@@ -35,9 +38,10 @@ def files(folder, part):
 
 
 def items(crate, sources):
-    """The text of each function, by its name in the log, and of each constant and struct, by that word and its name; under no name all
-    else but what `ghost use` brings. By the layout that `rt fmt` holds the files to, what opens at an indent ends at the next `}` of that
-    indent, and a constant with a `;`. An edit's text is one line, in which a function may stand whole and another begin."""
+    """The text of each function, by its name in the log, and of each constant and struct, by that word and its name;
+    under no name all else but what `ghost use` brings. By the layout that `rt fmt` holds the files to, what opens at an
+    indent ends at the next `}` of that indent, and a constant with a `;`. An edit's text is one line, in which a
+    function may stand whole and another begin."""
     texts = {}
     for path, text in sources.items():
         module = [part for part in pathlib.PurePath(path).with_suffix("").parts[1:] if part not in ("lib", "main")]
@@ -64,8 +68,9 @@ def changed(before, after):
 
 
 def answers(whole, edit):
-    """The wrong answers of an edit, each under its comment: what it changes, functions, constants and structs by their names and a meaning or a
-    law as `meaning`, and the fact that the comment names at its end. The changes are made in their order, as `rt` makes them."""
+    """The wrong answers of an edit, each under its comment: what it changes, functions, constants and structs by their
+    names and a meaning or a law as `meaning`, and the fact that the comment names at its end. The changes are made in
+    their order, as `rt` makes them."""
     texts = {path: text for part in ("src", "specs", "proofs") for path, text in files(whole, part).items()}
     found, path, old, above = [], "", "", False
     for line in edit.read_text(encoding="utf-8").splitlines():
@@ -157,8 +162,8 @@ def complaints(crate, label):
 
 
 def named(page, edits, known):
-    """The edits that the page names, each by its label in a section whose heading names its crate or with its crate in front, and a
-    complaint for each name that is no edit's there and stands nowhere in the sources."""
+    """The edits that the page names, each by its label in a section whose heading names its crate or with its crate in
+    front, and a complaint for each name that is no edit's there and stands nowhere in the sources."""
     found, faults, about, crates = set(), [], [], []
     for number, line in enumerate(page.splitlines(), 1):
         if line.startswith("#"):

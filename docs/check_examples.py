@@ -1,17 +1,19 @@
 #!/usr/bin/env python3
-"""Runs every example of the pages below and compares what is printed, byte for byte, with what the page says. An example is
+"""Runs every example of the pages below and compares what is printed, byte for byte, with what the page says. An
+example is
 
-- a block whose first line begins with `$ `: each such line is a command, run in the repository's folder, and the lines behind it are
-  all that it writes;
-- a block, the word `prints` alone, and a second block: the first is a torn page for ./catalogue, or a whole C program (```c) for the
-  archives;
+- a block whose first line begins with `$ `: each such line is a command, run in the repository's folder, and the lines
+  behind it are all that it writes;
+- a block, the word `prints` alone, and a second block: the first is a torn page for ./catalogue, or a whole C program
+  (```c) for the archives;
 - a call and its number in the text, `graha_tithi(33649) = 14`.
 
-Of any other block each line must be a command of this repository, or the block must stand in the file that is linked right before it; a
-formula stands in a block marked ```text.
+Of any other block each line must be a command of this repository, or the block must stand in the file that is linked
+right before it; a formula stands in a block marked ```text.
 
-  python3 docs/check_examples.py    after the programs, the archives host and records and the controller's are built: prints a line for
-                                    each example that differs, then the counts, and exits with 1 where one differs or a page has none"""
+  python3 docs/check_examples.py    after the programs, the archives host and records and the controller's are built:
+                                    prints a line for each example that differs, then the counts, and exits with 1 where
+                                    one differs or a page has none"""
 import os
 import pathlib
 import re

@@ -1,13 +1,14 @@
 #!/usr/bin/env python3
-"""Counts when the quotient of a Saka date has counted its year's extra month already, and how far the true Sun's entries into signs are
-from the mean Sun's, and holds what docs/saka.md and docs/signs.md say of both to the count.
+"""Counts when the quotient of a Saka date has counted its year's extra month already, and how far the true Sun's
+entries into signs are from the mean Sun's, and holds what docs/saka.md and docs/signs.md say of both to the count.
 
-A lunar month goes from new moon to new moon, by the true Sun and Moon of docs/rules.md (sections 4 and 5, edition 1), between two sunrises
-on a straight line. A month in which the true Sun enters no sign is extra, and has the name of the one behind it; Caitra is the month in which
-the Sun enters Meṣa. A day's date is its year, the number of its month's name, the tithis elapsed at sunrise, and its weekday.
+A lunar month goes from new moon to new moon, by the true Sun and Moon of docs/rules.md (sections 4 and 5, edition 1),
+between two sunrises on a straight line. A month in which the true Sun enters no sign is extra, and has the name of the
+one behind it; Caitra is the month in which the Sun enters Meṣa. A day's date is its year, the number of its month's
+name, the tithis elapsed at sunrise, and its weekday.
 
-  python3 docs/check_extra_months.py    prints a line for each sentence that a page has not, then the count of those that it has, and
-                                        exits with 1 where one is missing"""
+  python3 docs/check_extra_months.py    prints a line for each sentence that a page has not, then the count of those
+                                        that it has, and exits with 1 where one is missing"""
 import bisect
 import collections
 import pathlib
@@ -58,7 +59,8 @@ def new_moons():
 
 
 def months():
-    """Each lunar month of a year: its year, the number of its name from 0, Caitra, whether it is extra, and its days."""
+    """Each lunar month of a year: its year, the number of its name from 0, Caitra, whether it is extra, and its
+    days."""
     found, year, before = list(new_moons()), YEARS[0], 0
     for (day, sign), (end, following) in zip(found, found[1:]):
         name = (sign + 1) % 12
@@ -78,8 +80,8 @@ def reckoned(year, name, tithi, weekday, more):
 
 
 def count():
-    """Of the days before, in and after their year's extra month, and of years without one: how many the rule hits without the mark,
-    with it and with one month more, by which remainders, and how often the tithi at sunrise tells."""
+    """Of the days before, in and after their year's extra month, and of years without one: how many the rule hits
+    without the mark, with it and with one month more, by which remainders, and how often the tithi at sunrise tells."""
     years = collections.defaultdict(list)
     for month in months():
         years[month[0]].append(month)
@@ -145,6 +147,8 @@ SENTENCES = [
     ("docs/saka.md", f"with it {number['before', -1]:,}, {hundredths(number['before', -1], before)}"),
     ("docs/saka.md", f"by 33 is {span(remainders['before', -1])}"),
     ("docs/saka.md", f"by 33 is {span(remainders['before', 0])}"),
+    ("docs/saka.md", f"on {number['without', -1]:,} of their {number['without']:,} days"),
+    ("docs/saka.md", f"each with a remainder of {span(remainders['without', -1])}"),
     ("docs/saka.md", f"Of the {after:,} days after it the rule without the mark hits {number['after', 0]:,}, {hundredths(number['after', 0], after)}"),
     ("docs/saka.md", f"one month more would hit {number['after', 1]:,}, {hundredths(number['after', 1], after)}"),
     ("docs/saka.md", f"moves a day's tithi on by {' or '.join(map(str, sorted(apart)))}"),

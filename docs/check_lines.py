@@ -1,13 +1,14 @@
 #!/usr/bin/env python3
 """Holds the documents' numbers to what they count.
 
-- docs/search.md and docs/proofs.md: each `file:line` that they name must hold the code quoted after it (or begin with it, where the
-  quotation ends with …), and where they say that a file has a text so many times, or no such text, that must be so.
-- Numbers in sentences (COUNTED below): each must be the one that the source, a stored output or the last measurement has, and no
-  sentence may be gone.
+- docs/search.md and docs/proofs.md: each `file:line` that they name must hold the code quoted after it (or begin with
+  it, where the quotation ends with …), and where they say that a file has a text so many times, or no such text, that
+  must be so.
+- Numbers in sentences (COUNTED below): each must be the one that the source, a stored output or the last measurement
+  has, and no sentence may be gone.
 
-  python3 docs/check_lines.py            prints a line for each thing that does not hold and exits with 1, or a line for each page with
-                                         the count of those that do
+  python3 docs/check_lines.py            prints a line for each thing that does not hold and exits with 1, or a line for
+                                         each page with the count of those that do
   python3 docs/check_lines.py --renumber first writes the numbers of the lines where the code quoted stands now"""
 import pathlib
 import re
@@ -90,7 +91,8 @@ ENTRIES = constant("MOST_ENTRIES", "crates/sign_sheet/src/lib.rt")
 LINE_BYTES = constant("CAPACITY", "crates/text/src/lib.rt")
 SAKA, CIVIL = (len(source(f"crates/{name}_cases/stdout")) for name in ("saka", "civil"))
 STARRED = len(re.findall(r"\brecord \{ found = ", text("crates/worked/specs/Cases.antt").split("\nstarred =")[1]))
-# A page, what stands before a number, what stands behind it, and the number. In the patterns a space is any white space.
+# A page, what stands before a number, what stands behind it, and the number. In the patterns a space is any white
+# space.
 COUNTED = [
     ("README.md", r"has the", r"calls", CALLS),
     ("docs/contracts.md", r"Each of the", r"calls has", CALLS),

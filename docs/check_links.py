@@ -1,9 +1,10 @@
 #!/usr/bin/env python3
-"""Holds the links of README.md and docs/*.md to what they link: every relative link points to a file that exists, and to a heading of it
-where it names one; where a page says `name` in [file](path), or several names with commas between them, the file defines each; and in an
-item that lists definitions, laws or calls no name is without its file.
+"""Holds the links of README.md and docs/*.md to what they link: every relative link points to a file that exists, and
+to a heading of it where it names one; where a page says `name` in [file](path), or several names with commas between
+them, the file defines each; and in an item that lists definitions, laws or calls no name is without its file.
 
-  python3 docs/check_links.py    prints a line for each link that does not hold and then the counts, and exits with 1 where there is one"""
+  python3 docs/check_links.py    prints a line for each link that does not hold and then the counts, and exits with 1
+                                 where there is one"""
 import pathlib
 import re
 import sys

@@ -1,8 +1,8 @@
 #!/usr/bin/env python3
-"""Recomputes every K, D and p/q of the nine bodies, the constants of the two equations, the tables of the five planets and the older books' circles and days, from the
-numbers and formulas that sources 002 and 000 print, and compares them with the definitions in the crates' specs/. And holds the thirds,
-largest corrections and places that the sources print to the tables', by what docs/sources.md says of each: that it agrees, or by how
-much it misses.
+"""Recomputes every K, D and p/q of the nine bodies, the constants of the two equations, the tables of the five planets
+and the older books' circles and days, from the numbers and formulas that sources 002 and 000 print, and compares them
+with the definitions in the crates' specs/. And holds the thirds, largest corrections and places that the sources print
+to the tables', by what docs/sources.md says of each: that it agrees, or by how much it misses.
 
   python3 docs/check_sources.py
 
@@ -18,8 +18,8 @@ EQUATIONS = ROOT / "crates/panchanga/specs/TrueLongitudes.antt"
 PLANETS = ROOT / "crates/planets/specs/Tables.antt"
 OLDER = ROOT / "crates/older_motions/specs/OlderMotions.antt"
 
-# Source 002. K (kṣepaka) and D (dhruvaka) of its table 1 in degrees, minutes and seconds; the terms of its formula for the
-# motion a day, in degrees; the value that it prints beside the formula, in degrees, minutes, seconds and thirds.
+# Source 002. K (kṣepaka) and D (dhruvaka) of its table 1 in degrees, minutes and seconds; the terms of its formula for
+# the motion a day, in degrees; the value that it prints beside the formula, in degrees, minutes, seconds and thirds.
 SOURCE_002 = [
     ("Sun", (349, 41), (1, 49, 11), (F(1), -F(1, 70), -F(1, 150 * 60)), (0, 59, 8, 10)),
     ("Moon", (349, 6), (3, 46, 11), (F(14), -F(14, 17), -F(1, 140 * 60)), (13, 10, 34, 52)),
@@ -49,13 +49,14 @@ SOURCE_000 = [
 MERCURY_TERMS = (F(3), F(3, 28), -F(1, 38 * 60))
 BACKWARDS = {"Moon's node"}
 
-# Source 002's equations of the centre, with b the bhuja in degrees over `part`: (whole − b) b / (first − (whole − b) b / second) degrees.
-# Its table 3: the Sun's apogee.
+# Source 002's equations of the centre, with b the bhuja in degrees over `part`: (whole − b) b / (first − (whole − b) b
+# / second) degrees. Its table 3: the Sun's apogee.
 EQUATIONS_002 = {"trueSun": (9, 20, 57, 9), "moonAlone": (6, 30, 56, 20)}
 SUN_APOGEE = (78,)
 
-# The older books. Source 000's table 4: circles in a Kalpa, days in a Mahāyuga, a thousandth of one. Source 003's tables 6.1 and 6.2: circles and days in
-# a Kalpa; of the Sūryasiddhānta's days it prints two digits too few, and what is held are its diurnal revolutions of stars less the Sun's circles.
+# The older books. Source 000's table 4: circles in a Kalpa, days in a Mahāyuga, a thousandth of one. Source 003's
+# tables 6.1 and 6.2: circles and days in a Kalpa; of the Sūryasiddhānta's days it prints two digits too few, and what
+# is held are its diurnal revolutions of stars less the Sun's circles.
 OLDER_BOOKS = [
     ("sun", (4320000000, 1577916450), (4320000000, 1577916450000)),
     ("moon", (57753300000, 1577916450), (57753300000, 1577916450000)),
@@ -65,8 +66,8 @@ OLDER_BOOKS = [
 # What docs/sources.md says of the thirds that 002 prints: rounded down, rounded to the nearest, or neither.
 PRINTED_THIRDS = ["down", "nearest", "neither", "neither", "down", "down", "down", "down", "neither"]
 
-# Source 000's tables 8 and 9: mean places of two days, (C, A), in degrees, minutes and seconds, and by how many seconds each is more than the
-# table's, rounded to the nearest.
+# Source 000's tables 8 and 9: mean places of two days, (C, A), in degrees, minutes and seconds, and by how many seconds
+# each is more than the table's, rounded to the nearest.
 PLACES_000 = {
     (8, 1521): [((34, 13, 41), 0), ((200, 10, 19), -3), ((314, 11, 16), -2608), ((44, 21, 6), 3), ((299, 55, 13), 0), ((47, 14, 50), 0), ((128, 15, 16), 0), ((95, 41, 36), 0), ((330, 36, 45), 0)],
     (43, 2033): [((115, 9, 59), -1), ((334, 31, 31), 2), ((184, 42, 18), -3485), ((128, 2, 49), 0), ((64, 33, 30), 0), ((197, 7, 48), 1), ((330, 17, 58), 1), ((310, 12, 47), 1), ((8, 14, 4), 2)],
@@ -81,12 +82,13 @@ PLANETS_002 = [
     ("Saturn", [0, 15, 28, 39, 48, 54, 57, 57, 53, 45, 33, 18, 0], [0, 19, 40, 60, 77, 89, 93], 240),
 ]
 
-# Its tables 6 and 7: the largest śīghraphala with the degrees where it is reached, and the largest mandaphala, where it has one; and by how many
-# seconds each is more than the row's largest entry.
+# Its tables 6 and 7: the largest śīghraphala with the degrees where it is reached, and the largest mandaphala, where it
+# has one; and by how many seconds each is more than the row's largest entry.
 LARGEST_SIGHRA = [((40, 0), (135, 135), 0), ((21, 12), (105, 120), 0), ((10, 48), (105, 105), 0), ((46, 6), (135, 135), 0), ((5, 42), (90, 105), 0)]
 LARGEST_MANDA = [((13, 36), 2160), ((5, 42), 7560), ((1, 30), -15120), None, ((9, 18), 0)]
 
-# Its section IV: the true places of 28 February 2025, (45, 3699), in degrees and minutes, and by how many minutes each is more than ours.
+# Its section IV: the true places of 28 February 2025, (45, 3699), in degrees and minutes, and by how many minutes each
+# is more than ours.
 PLACES_002 = [((107, 9), 1476), ((355, 21), 1524), ((72, 12), 1353), ((10, 48), 1788), ((350, 42), 1704)]
 
 # Thirds by which a value that 002 prints may miss its own formula; see docs/sources.md.
@@ -164,7 +166,8 @@ def value(word, text):
 
 
 def equations():
-    """In seconds, with s the bhuja and R = (part × 3600)²: 3600 × second × Q / (first × second × R − Q), Q = s × (648000 − s)."""
+    """In seconds, with s the bhuja and R = (part × 3600)²: 3600 × second × Q / (first × second × R − Q), Q = s ×
+    (648000 − s)."""
     text = EQUATIONS.read_text(encoding="utf-8")
     for name, (part, whole, first, second) in EQUATIONS_002.items():
         found = [value(word, text) for word in re.search(rf"^{name} .*= trueLongitude (\w+) (\w+) (\w+)", text, re.M).groups()]

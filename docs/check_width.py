@@ -1,8 +1,10 @@
 #!/usr/bin/env python3
-"""Holds documents and comments to 120 columns. Of a document every line counts but those of tables and of indented blocks, which show what a
-program prints; of a source its comments: lines that are nothing else, and Python's texts in front of a module or a function.
+"""Holds documents and comments to 120 columns. Of a document every line counts but those of tables and of indented
+blocks, which show what a program prints; of a source its comments: lines that are nothing else, and Python's texts in
+front of a module or a function.
 
-  python3 docs/check_width.py    prints each line that is wider and then the counts, and exits with 1 where there is one"""
+  python3 docs/check_width.py    prints each line that is wider and then the counts, and exits with 1 where there is
+                                 one"""
 import ast
 import pathlib
 import re

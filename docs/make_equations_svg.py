@@ -1,9 +1,11 @@
 #!/usr/bin/env python3
-"""Draws docs/equations.svg, the equations of the Sun and the Moon, from what the host's calls hand back: a dot for each day of the first year, and the two of day 33649.
+"""Draws docs/equations.svg, the equations of the Sun and the Moon, from what the host's calls hand back: a dot for each
+day of the first year, and the two of day 33649.
 
   python3 docs/make_equations_svg.py    after `rt staticlib host`
 
-The drawing reckons no longitude and no equation: an anomaly is a difference of two longitudes that were handed back, and so is an equation."""
+The drawing reckons no longitude and no equation: an anomaly is a difference of two longitudes that were handed back,
+and so is an equation."""
 import pathlib
 import subprocess
 import tempfile

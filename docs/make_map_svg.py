@@ -1,10 +1,11 @@
 #!/usr/bin/env python3
-"""Draws docs/map.svg, the map of the crates: a lane for each who uses them, and in it the crates that the lane's programs call, from the text
-that is read over the numbers that are reckoned to the text that is printed. Who calls whom is read from the crates' sources; the tables
-below say only which part of the way a crate is, and whose a program is.
+"""Draws docs/map.svg, the map of the crates: a lane for each who uses them, and in it the crates that the lane's
+programs call, from the text that is read over the numbers that are reckoned to the text that is printed. Who calls whom
+is read from the crates' sources; the tables below say only which part of the way a crate is, and whose a program is.
 
   python3 docs/make_map_svg.py            draws it, and says what is missing
-  python3 docs/make_map_svg.py --check    draws nothing; exits with 1 where a crate of crates.txt is not in it, or it is not what the sources give"""
+  python3 docs/make_map_svg.py --check    draws nothing; exits with 1 where a crate of crates.txt is not in it, or it is
+                                          not what the sources give"""
 import pathlib
 import re
 import sys

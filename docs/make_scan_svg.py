@@ -1,10 +1,12 @@
 #!/usr/bin/env python3
-"""Draws docs/scan.svg, the scan of the worked query, from what the program scan_days writes (its stored output, to which every check holds it).
+"""Draws docs/scan.svg, the scan of the worked query, from what the program scan_days writes (its stored output, to
+which every check holds it).
 
   python3 docs/make_scan_svg.py
 
-The drawing reckons no longitude and no jump: days, longitudes, matches and next days are the program's. A Sun lower than on the visit
-before has passed 0, so a circle is put on, and a jump that ends past the last day is drawn as far as the picture goes."""
+The drawing reckons no longitude and no jump: days, longitudes, matches and next days are the program's. A Sun lower
+than on the visit before has passed 0, so a circle is put on, and a jump that ends past the last day is drawn as far as
+the picture goes."""
 import pathlib
 
 HERE = pathlib.Path(__file__).resolve().parent

@@ -11,8 +11,8 @@
 extern "C" {
 #endif
 
-/* A day's numbers. The mean places are those of 0 Sun, 1 Moon, 2 Moon's apogee, 3 Moon's node, 4 Mars, 5 Mercury's anomaly, 6 Jupiter,
- * 7 Venus' anomaly and 8 Saturn. */
+/* A day's numbers. The mean places are those of 0 Sun, 1 Moon, 2 Moon's apogee, 3 Moon's node, 4 Mars, 5 Mercury's
+ * anomaly, 6 Jupiter, 7 Venus' anomaly and 8 Saturn. */
 struct graha_day_record {
     uint32_t day;           /* 0 to 401599; the call reads it and leaves it as it is */
     uint32_t weekday;       /* 0 Monday to 6 Sunday */
@@ -25,9 +25,9 @@ struct graha_day_record {
     uint32_t karana;        /* 1 to 11 */
 };
 
-/* Fills in the records of the days that stand in them, in any order, the same day twice too, by edition 1 or 2 of the Moon's rule. Result 0;
- * or 14: the edition is another; then 2: a day is above 401599. With any result but 0 every record is as it was. count is the number of records,
- * 64 bits on every machine; with 0 the pointer is not followed. */
+/* Fills in the records of the days that stand in them, in any order, the same day twice too, by edition 1 or 2 of the
+ * Moon's rule. Result 0; or 14: the edition is another; then 2: a day is above 401599. With any result but 0 every
+ * record is as it was. count is the number of records, 64 bits on every machine; with 0 the pointer is not followed. */
 uint32_t fill_records(uint32_t edition, struct graha_day_record *records, uint64_t count);
 
 #ifdef __cplusplus
