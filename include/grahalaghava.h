@@ -60,8 +60,8 @@ uint32_t graha_next_within(uint32_t cycle, uint32_t within);
  * Result 3: months, tithis or weekday out of range; 2: the year or the day found; 4: none of the three days has the weekday. */
 uint32_t graha_saka_result(uint32_t year, uint32_t months, uint32_t tithis, uint32_t weekday);
 uint32_t graha_saka_day(uint32_t year, uint32_t months, uint32_t tithis, uint32_t weekday);
-/* The same where the year may have an extra month (adhikamasa) that is still to come on the date: any pending but 0 says that it has, and
- * one is taken from the extra months reckoned. Result 8, after 2 for the year and before 4: none is reckoned. */
+/* The same with one extra month (adhikamasa) fewer for any pending but 0: for a date before its year's extra month, where that has been
+ * counted already. The tithi of the answer tells whether it has (docs/saka.md). Result 8, after 2 for the year and before 4: there is none to take. */
 uint32_t graha_saka_pending_result(uint32_t year, uint32_t months, uint32_t tithis, uint32_t weekday, uint32_t pending);
 uint32_t graha_saka_pending_day(uint32_t year, uint32_t months, uint32_t tithis, uint32_t weekday, uint32_t pending);
 
