@@ -8,7 +8,7 @@ use lib.Dec.{leb, ltb, eqb}
 use borrow.Author.Tests.{ltb-true, ltb-false, leb-true, leb-false, eqb-true, not-true, lt-ltb, le-leb, eq-eqb}
 use Rattle.civil.specs.declared.Date.{Date}
 use Rattle.civil.specs.Calendar.{leap, monthDays, lost, dateExists}
-use Rattle.civil.specs.Serial.{place, marchYear, before, yearDay, stamp, lastJulianStamp, firstGregorianStamp}
+use Rattle.civil.specs.Serial.{sinceMarch, marchYear, before, yearDay, stamp, lastJulianStamp, firstGregorianStamp}
 use Rattle.civil.proofs.Months.{unit-small, InMonth, in-month}
 
 -- a month and a day that its year has
@@ -27,18 +27,18 @@ dayOf x = yearDay (x .month) (x .day)
 abbrev pub stampOf : Date → ℕ
 stampOf x = stamp (yearOf x) (dayOf x)
 
-october-place : (m : ℕ) → 1 ≤ m → m ≤ 12 → place m ≡ 7 → m ≡ 10
-october-place m h k e = omega arith
+october-month : (m : ℕ) → 1 ≤ m → m ≤ 12 → sinceMarch m ≡ 7 → m ≡ 10
+october-month m h k e = omega arith
 
 module _ (x : Date) (f : Fits x) where
   pub placed : InMonth (x .year) (x .month) (x .day)
   placed = in-month (x .year) (x .month) (x .day) (f .from-one) (f .to-twelve) (f .first) (f .final)
 
-  -- the year from March on and the month's place in it, as one number of months
-  pub months : 12 * yearOf x + place (x .month) + 3 ≡ 12 * (x .year + 400) + x .month
+  -- the year from March on and the month in it, as one number of months
+  pub months : 12 * yearOf x + sinceMarch (x .month) + 3 ≡ 12 * (x .year + 400) + x .month
   months = go (ltb (x .month) 3) refl
     where
-      go : (t : Bool) → ltb (x .month) 3 ≡ t → 12 * (x .year + cond t 399 400) + place (x .month) + 3 ≡ 12 * (x .year + 400) + x .month
+      go : (t : Bool) → ltb (x .month) 3 ≡ t → 12 * (x .year + cond t 399 400) + sinceMarch (x .month) + 3 ≡ 12 * (x .year + 400) + x .month
       go true e = omega (arith, ltb-true (x .month) 3 e, f .from-one)
       go false e = omega (arith, ltb-false (x .month) 3 e, f .to-twelve)
 
@@ -50,9 +50,9 @@ module _ (x : Date) (f : Fits x) where
   october h k =
       let l = year-long in
       let y : yearOf x ≡ 1982 = omega arith in
-      let p : place (x .month) ≡ 7 = omega (arith, placed .found) in
-      let m : x .month ≡ 10 = october-place (x .month) (f .from-one) (f .to-twelve) p in
-      let b : before (place (x .month)) ≡ 214 = rw m in
+      let p : sinceMarch (x .month) ≡ 7 = omega (arith, placed .found) in
+      let m : x .month ≡ 10 = october-month (x .month) (f .from-one) (f .to-twelve) p in
+      let b : before (sinceMarch (x .month)) ≡ 214 = rw m in
       (omega (arith, months), (m, omega (arith, f .first)))
 
 -- a date that exists

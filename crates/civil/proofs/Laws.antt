@@ -1,4 +1,5 @@
--- The laws of the answers: day and date are each other's, refusals are given exactly where they are due, and the search from date to date is the count of days.
+-- The laws of the answers: day and date are each other's, refusals are given exactly where they are due, and the search
+-- from date to date is the count of days.
 -- Assumes nothing.
 use mathlib.Core.Bool.{Bool, true, false, cond, _&&_}
 use mathlib.Core.Path.{_≡_, refl, sym, ap, _∙_, subst}

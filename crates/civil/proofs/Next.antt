@@ -1,4 +1,5 @@
--- The date after a date exists and has the next serial number, case by case as the calendar says; so day n's date has day n's serial number.
+-- The date after a date exists and has the next serial number, case by case as the calendar says; so day n's date has
+-- day n's serial number.
 -- Assumes nothing.
 use mathlib.Core.Bool.{Bool, true, false, cond, _&&_, and-eq-true-iff, false≢true}
 use mathlib.Core.Logic.{⊎-elim}
@@ -9,7 +10,7 @@ use lib.Dec.{ltb, eqb, lit≤}
 use borrow.Author.Tests.{ltb-true, ltb-false, eqb-true, lt-ltb, le-ltb, eq-eqb}
 use Rattle.civil.specs.declared.Date.{Date}
 use Rattle.civil.specs.Calendar.{leap, monthDays, lastJulian, firstGregorian, sameDate, next, dateOn}
-use Rattle.civil.specs.Serial.{place, yearStart, gregorian, serialOf, epochSerial, lastJulianStamp}
+use Rattle.civil.specs.Serial.{sinceMarch, yearStart, gregorian, serialOf, epochSerial, lastJulianStamp}
 use Rattle.civil.proofs.Years.{unit, Keeps, keeps-julian, keeps-gregorian}
 use Rattle.civil.proofs.Months.{unit-small, february, month-long, next-month}
 use Rattle.civil.proofs.Dates.{Fits, Real, yearOf, dayOf, stampOf, months, year-long, october}
@@ -36,7 +37,7 @@ calendar x = gregorian (yearOf x) (dayOf x)
 pub keeps : (x : Date) → Real x → Keeps (calendar x) (x .year)
 keeps x r = go (calendar x) refl
   where
-    m : 12 * yearOf x + place (x .month) + 3 ≡ 12 * (x .year + 400) + x .month
+    m : 12 * yearOf x + sinceMarch (x .month) + 3 ≡ 12 * (x .year + 400) + x .month
     m = months x (r .fits)
 
     go : (g : Bool) → calendar x ≡ g → Keeps g (x .year)

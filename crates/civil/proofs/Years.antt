@@ -1,4 +1,5 @@
--- The years from March to March: each is as long as its February says, and a serial number falls in one year only; by single steps of the quotients by 4, 100 and 400.
+-- The years from March to March: each is as long as its February says, and a serial number falls in one year only; by
+-- single steps of the quotients by 4, 100 and 400.
 -- Assumes nothing.
 use mathlib.Core.Bool.{Bool, true, false, cond, not, _&&_}
 use mathlib.Core.Path.{_≡_, refl, ap}

@@ -1,4 +1,5 @@
--- The civil calendar: which dates there are, which comes after which, and each day's date. Julian up to 4 October 1582, Gregorian from 15 October 1582.
+-- The civil calendar: which dates there are, which comes after which, and each day's date. Julian up to 4 October 1582,
+-- Gregorian from 15 October 1582.
 -- Assumes nothing.
 use mathlib.Core.Bool.{Bool, cond, not, _&&_}
 use mathlib.Core.List.{List, [], _∷_}

@@ -1,4 +1,5 @@
--- The serial numbers behind the code, by closed rules. Only private contracts speak of them; that they follow the calendar is proved.
+-- The serial numbers behind the code, by closed rules. Only private contracts speak of them; that they follow the
+-- calendar is proved.
 -- Assumes nothing.
 use mathlib.Core.Bool.{Bool, true, false, cond}
 use Prim.Native.Nat.{ℕ, _+_, _*_, _-_, _/_, _%_, _≤_, _<_}
@@ -6,11 +7,11 @@ use lib.Dec.{ltb}
 use Rattle.days.specs.Days.{epochJulianDay}
 use Rattle.civil.specs.declared.Date.{Date}
 
--- a month's place, counted from March as 0
-abbrev pub place : ℕ → ℕ
-place m = (m + 9) % 12
+-- a month counted from March as 0
+abbrev pub sinceMarch : ℕ → ℕ
+sinceMarch m = (m + 9) % 12
 
--- the year that began in the last March; year 0 counts as 400, so that none is below 0
+-- the year that began in the last March; year 0 counts as 400, so that none is below 0, and 1582 as 1982
 abbrev pub marchYear : ℕ → ℕ → ℕ
 marchYear y m = y + cond (ltb m 3) 399 400
 
@@ -24,13 +25,14 @@ pub record InYear (g : Bool) (s u : ℕ) : Type 0 where
   pub from : yearStart g u ≤ s
   pub until : s < yearStart g (u + 1)
 
--- the days from 1 March to the month with place k: five months have 153 days, and the steps are the months' lengths (the law `month-steps`)
+-- the days from 1 March to the month k, counted from March as 0: five months have 153 days, and the steps are the
+-- months' lengths (the law `month-steps`)
 abbrev pub before : ℕ → ℕ
 before k = (153 * k + 2) / 5
 
 -- the day, from 0, of the year that began in March
 abbrev pub yearDay : ℕ → ℕ → ℕ
-yearDay m d = before (place m) + (d - 1)
+yearDay m d = before (sinceMarch m) + (d - 1)
 
 -- a day of a year as one number, in the dates' order: no year has 400 days
 abbrev pub stamp : ℕ → ℕ → ℕ
@@ -38,10 +40,10 @@ stamp y n = 400 * y + n
 
 -- the stamps of 4 October 1582, the day 217 of its year, and of 15 October, the day 228 of the Gregorian one
 abbrev pub lastJulianStamp : ℕ
-lastJulianStamp = stamp 1982 217
+lastJulianStamp = stamp (1582 + 400) 217
 
 abbrev pub firstGregorianStamp : ℕ
-firstGregorianStamp = stamp 1982 228
+firstGregorianStamp = stamp (1582 + 400) 228
 
 -- the day n of the year y is after 4 October 1582
 abbrev pub gregorian : ℕ → ℕ → Bool

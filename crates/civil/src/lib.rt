@@ -4,7 +4,7 @@ ghost use Prim.Native.Nat.{_+_, _*_, _≤_, _<_};
 ghost use Rattle.days.specs.Days.{lastDay};
 ghost use Rattle.civil.specs.Calendar.{leap, monthDays, lost, dateExists, dateOn};
 ghost use Rattle.civil.specs.Answers.{dayOfDate, dateOfDay};
-ghost use Rattle.civil.specs.Serial.{place, marchYear, yearStart, before, gregorian, InYear, serialOf};
+ghost use Rattle.civil.specs.Serial.{sinceMarch, marchYear, yearStart, before, gregorian, InYear, serialOf};
 use days::Day;
 use days::NumberAnswer;
 use days::refusal;
@@ -30,7 +30,8 @@ const NO_DATE: DateAnswer = DateAnswer {
     },
 };
 
-// Serial numbers count the days from 1 March 400 Julian years before that of year 0: the Julian Day Number of serial number 0.
+// Serial numbers count the days from 1 March 400 Julian years before that of year 0: the Julian Day Number of serial
+// number 0.
 const SERIAL_START: u32 = 1575018;
 
 // The serial numbers of day 0, from the epoch's Julian Day Number and number, and of 15 October 1582.
@@ -38,22 +39,28 @@ const DAY_0_SERIAL: u64 = (Day::EPOCH_JULIAN_DAY - Day::FIRST - SERIAL_START) as
 
 const GREGORIAN_SERIAL: u64 = 724143;
 
-// 4 October 1582, the day 217 of the year 1982, in the dates' order: no year has 400 days.
-const LAST_JULIAN_STAMP: u64 = 400 * 1982 + 217;
+// Year 0 is counted as 400, the year 1582 as 1982: January of year 0 falls in the year that began in the March before,
+// which so is 399 and not below 0. After 400 years the leap years repeat.
+const YEAR_0: u64 = 400;
 
-// The days from 1 March to a month; months are counted from March as 0. Five months in a row have 153 days (docs/rules.md).
-fn days_before(month: usize) -> u32
-    requires { ⌜ month < 12 ⌝ }
-    ensures { λ r. ⌜ (r ≡ before month) × (r ≤ 337) ⌝ }
+// 4 October 1582 in the dates' order: 214 days from 1 March to 1 October, and 3. No year has 400 days.
+const LAST_JULIAN_STAMP: u64 = 400 * (1582 + YEAR_0) + 217;
+
+// Months are counted from March, so that the leap day comes last: March is 0, January 10, February 11.
+fn since_march(month: u32) -> u32
+    requires { ⌜ month ≤ 12 ⌝ }
+    ensures { λ r. ⌜ r ≡ sinceMarch month ⌝ }
 {
-    ((153 * month + 2) / 5) as u32
+    (month + 9) % 12
 }
 
-fn place_of(month: u32) -> usize
-    requires { ⌜ month ≤ 12 ⌝ }
-    ensures { λ r. ⌜ r ≡ place month ⌝ }
+// The days from 1 March to the first day of the month m, counted from March as 0. Five months in a row have 153 days:
+// 31, 30, 31, 30 and 31, from March on and again from August on (docs/rules.md).
+fn days_before(m: u32) -> u32
+    requires { ⌜ m < 12 ⌝ }
+    ensures { λ r. ⌜ (r ≡ before m) × (r ≤ 337) ⌝ }
 {
-    ((month + 9) % 12) as usize
+    (153 * m + 2) / 5
 }
 
 fn is_leap(year: u32) -> bool
@@ -77,9 +84,9 @@ fn month_days(year: u32, month: u32) -> u32
     if month == 2 {
         if is_leap(year) { 29 } else { 28 }
     } else {
-        let at = place_of(month);
-        let end = days_before(at + 1);
-        end - days_before(at)
+        let m = since_march(month);
+        let end = days_before(m + 1);
+        end - days_before(m)
     }
 }
 
@@ -129,15 +136,12 @@ fn year_start(gregorian: bool, year: u64) -> u64
     }
 }
 
-// The year that began in the last March; year 0 counts as 400, so the largest is below 2^32 + 400.
+// The year that began in the last March, counted as YEAR_0 says: below 2^32 + 400.
 fn march_year(year: u32, month: u32) -> u64
     ensures { λ r. ⌜ (r ≡ marchYear year month) × (r < 4294967696) ⌝ }
 {
-    if month < 3 {
-        year as u64 + 399
-    } else {
-        year as u64 + 400
-    }
+    let counted = year as u64 + YEAR_0;
+    if month < 3 { counted - 1 } else { counted }
 }
 
 // The day, counted from 1 March as 0, is after 4 October 1582.
@@ -153,7 +157,7 @@ fn serial(date: Date) -> u64
     ensures { λ r. ⌜ r ≡ serialOf date ⌝ }
 {
     let year = march_year(date.year, date.month);
-    let day = (days_before(place_of(date.month)) + date.day - 1) as u64;
+    let day = (days_before(since_march(date.month)) + date.day - 1) as u64;
     year_start(is_gregorian(year, day), year) + day
 }
 
@@ -190,7 +194,7 @@ fn year_of(gregorian: bool, serial: u64) -> u64
     }
 }
 
-// Each month has 153 / 5 days, near enough that the quotient is its place.
+// Each month has 153 / 5 days, near enough that the quotient is the month, counted from March as 0.
 fn date_at(day: u32) -> Date
     requires { ⌜ day ≤ lastDay ⌝ }
     ensures { λ r. ⌜ r ≡ dateOn day ⌝ }
@@ -198,16 +202,16 @@ fn date_at(day: u32) -> Date
     let serial = day as u64 + DAY_0_SERIAL;
     let gregorian = GREGORIAN_SERIAL <= serial;
     let year = year_of(gregorian, serial);
-    let within = serial - year_start(gregorian, year);
-    let at = (5 * within + 2) / 153;
-    let day = (within - days_before(at as usize) as u64 + 1) as u32;
-    if at < 10 {
-        let year = (year - 400) as u32;
-        let month = (at + 3) as u32;
+    let within = (serial - year_start(gregorian, year)) as u32;
+    let m = (5 * within + 2) / 153;
+    let day = within - days_before(m) + 1;
+    let year = (year - YEAR_0) as u32;
+    if m < 10 {
+        let month = m + 3;
         Date { year, month, day }
     } else {
-        let year = (year - 399) as u32;
-        let month = (at - 9) as u32;
+        let year = year + 1;
+        let month = m - 9;
         Date { year, month, day }
     }
 }

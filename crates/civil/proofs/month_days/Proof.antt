@@ -4,7 +4,7 @@ use Prim.Native.Nat.{suc, _+_}
 use native.Mathlib.Omega.{arith}
 use borrow.Author.Needs.{needs}
 use Rattle.civil.specs.Calendar.{monthDays}
-use Rattle.civil.specs.Serial.{place, before}
+use Rattle.civil.specs.Serial.{sinceMarch, before}
 use Rattle.civil.proofs.Months.{month-length}
 use Rattle.civil.proofs.month_days.Statement.{statement}
 use Rattle.civil.proofs.month_days.Tie as tie
@@ -13,14 +13,14 @@ ends : (c : tie.After-days-before2) → (c .before .days-before .result ≡ c .d
 ends c =
     let y = c .before .before .before .before .args .year in
     let m = c .before .before .before .before .args .month in
-    let e : c .before .before .place-of .result + 1 ≡ suc (place m) = omega (arith, c .before .before .place-of .ensures) in
-    omega (arith, c .before .days-before .ensures, c .days-before2 .ensures, ap before e, ap before (c .before .before .place-of .ensures), month-length y m (omega arith) (omega arith) (c .before .before .before .if1 .left))
+    let e : c .before .before .since-march .result + 1 ≡ suc (sinceMarch m) = omega (arith, c .before .before .since-march .ensures) in
+    omega (arith, c .before .days-before .ensures, c .days-before2 .ensures, ap before e, ap before (c .before .before .since-march .ensures), month-length y m (omega arith) (omega arith) (c .before .before .before .if1 .left))
 
 is-leap-requires : tie.Need-is-leap-requires
 is-leap-requires c κs = search needs
 
-place-of-requires : tie.Need-place-of-requires
-place-of-requires c κs = search needs
+since-march-requires : tie.Need-since-march-requires
+since-march-requires c κs = search needs
 
 add-days-before : tie.Need-add-days-before
 add-days-before c = search needs
@@ -50,7 +50,7 @@ month-days-spec =
     tie.close
     (tie.spec
     is-leap-requires
-    place-of-requires
+    since-march-requires
     add-days-before
     days-before-requires
     days-before-requires-2

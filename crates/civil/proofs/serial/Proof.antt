@@ -10,8 +10,8 @@ use Rattle.civil.proofs.serial.Tie as tie
 march-year-requires : tie.Need-march-year-requires
 march-year-requires c κs = search needs
 
-place-of-requires : tie.Need-place-of-requires
-place-of-requires c κs = search needs
+since-march-requires : tie.Need-since-march-requires
+since-march-requires c κs = search needs
 
 days-before-requires : tie.Need-days-before-requires
 days-before-requires c κs = search needs
@@ -38,7 +38,7 @@ returns : tie.Need-returns
 unfolding serialOf
 returns c =
     let x = c .before .before .before .before .before .before .args .date in
-    let n : c .before .before .before .days-before .result + x .day - 1 ≡ yearDay (x .month) (x .day) = omega (arith, c .before .before .before .days-before .ensures, ap before (c .before .before .before .before .place-of .ensures)) in
+    let n : c .before .before .before .days-before .result + x .day - 1 ≡ yearDay (x .month) (x .day) = omega (arith, c .before .before .before .days-before .ensures, ap before (c .before .before .before .before .since-march .ensures)) in
     cc (c .year-start .ensures .0, c .before .is-gregorian .ensures, c .before .before .before .before .before .march-year .ensures .0)
 
 pub serial-spec : {M : Type 1} → statement M
@@ -46,7 +46,7 @@ serial-spec =
     tie.close
     (tie.spec
     march-year-requires
-    place-of-requires
+    since-march-requires
     days-before-requires
     add-day
     sub-day
