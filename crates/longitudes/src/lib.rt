@@ -12,6 +12,7 @@ ghost use Rattle.longitudes.specs.Answers.{bodyNumber, theLongitude, lon
 // Seconds of arc in a circle.
 pub const CIRCLE: u32 = 1296000;
 
+// How many bodies there are.
 pub const BODIES: usize = 9;
 
 pub enum Body {
@@ -25,6 +26,19 @@ pub enum Body {
     VenusAnomaly,
     Saturn,
 }
+
+// The bodies by their numbers.
+pub const IN_ORDER: [Body; BODIES] = [
+    Body::Sun,
+    Body::Moon,
+    Body::MoonApogee,
+    Body::MoonNode,
+    Body::Mars,
+    Body::MercuryAnomaly,
+    Body::Jupiter,
+    Body::VenusAnomaly,
+    Body::Saturn,
+];
 
 // One body's: its whole seconds, and what was left over of the exact longitude, as a fraction of a second with this divisor. A refusal has all zeros.
 pub struct MeanLongitude {

@@ -122,7 +122,7 @@ fn scan_next(motion: CodedMotion, scan: Scan, gain: u64, next: u32) -> Scan
     Scan { ahead, turn }
 }
 
-fn short_way(ahead: u64, circle: u64) -> u64
+fn shorter_way(ahead: u64, circle: u64) -> u64
     requires { ⌜ ahead < circle ⌝ }
     ensures { λ r. ⌜ r ≡ shorterWay circle ahead ⌝ }
 {
@@ -138,13 +138,13 @@ fn farthest_over(motion: CodedMotion, first: u32, last: u32) -> Farthest
     let circle = whole_circle(motion);
     let gain = ahead_on(motion, 1);
     let mut scan = scan_from(motion, first);
-    let mut numerator = short_way(scan.ahead, circle);
+    let mut numerator = shorter_way(scan.ahead, circle);
     let mut day = first;
     let mut next = first;
     while next < last {
         next += 1;
         scan = scan_next(motion, scan, gain, next);
-        let distance = short_way(scan.ahead, circle);
+        let distance = shorter_way(scan.ahead, circle);
         if numerator < distance {
             numerator = distance;
             day = next;

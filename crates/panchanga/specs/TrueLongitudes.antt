@@ -1,4 +1,5 @@
--- The true Sun and Moon of the mean ones: the mean longitude with its equation, and the Moon's by two editions. The true longitudes are paper 01's true places.
+-- The true Sun and Moon of the mean ones: the mean longitude with its equation, and the Moon's by two editions. The true
+-- longitudes are paper 01's true places.
 -- Assumes nothing.
 use mathlib.Core.Bool.{Bool, cond, _||_}
 use Prim.Native.Nat.{ℕ, _*_, _-_, _/_}
@@ -61,9 +62,16 @@ secondEdition = 2
 unfoldable pub isEdition : ℕ → Bool
 isEdition e = eqb e firstEdition || eqb e secondEdition
 
+-- the numbers of the Moon's equation
+abbrev pub moonScale : ℕ
+moonScale = 72000
+
+abbrev pub moonDivisor : ℕ
+moonDivisor = 522547200000
+
 -- the Moon with its own equation
 abbrev pub moonAlone : ℕ → ℕ → ℕ
-moonAlone apogee mean = trueLongitude 72000 522547200000 apogee mean
+moonAlone apogee mean = trueLongitude moonScale moonDivisor apogee mean
 
 -- and in the second edition after it a twenty-seventh of the Sun's equation, rounded down, with the Sun's sign
 unfoldable pub trueMoon : ℕ → ℕ → ℕ → ℕ → ℕ

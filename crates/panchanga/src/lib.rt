@@ -37,10 +37,14 @@ const HALF_TITHI: u32 = CIRCLE / 60;
 
 const SUN_APOGEE: u32 = 280800;
 
-// The numbers of the Sun's equation.
+// The numbers of the Sun's equation, and of the Moon's.
 const SUN_SCALE: u64 = 32400;
 
 const SUN_DIVISOR: u64 = 538526880000;
+
+const MOON_SCALE: u64 = 72000;
+
+const MOON_DIVISOR: u64 = 522547200000;
 
 // Paper 02's editions.
 pub const FIRST_EDITION: u32 = 1;
@@ -132,7 +136,7 @@ fn moon_alone_on(day: Day) -> u32
 {
     let mean = mean_on(Body::Moon, day);
     let apogee = mean_on(Body::MoonApogee, day);
-    true_longitude(72000, 522547200000, apogee, mean)
+    true_longitude(MOON_SCALE, MOON_DIVISOR, apogee, mean)
 }
 
 // An edition's Moon, of the Moon with its own equation. (That comes as a parameter, so that the compiler lays its reckoning open in each call and leaves this out, which edition 1 does not need.)

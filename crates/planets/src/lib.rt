@@ -98,7 +98,7 @@ fn within_quarter(anomaly: u32) -> u32
 }
 
 // A correction with its sign, as a number of seconds forwards: what is subtracted is the rest of a circle.
-fn signed(anomaly: u32, size: u32) -> u32
+fn forwards(anomaly: u32, size: u32) -> u32
     requires { ⌜ size ≤ 165960 ⌝ }
     ensures { λ r. ⌜ SignedBy anomaly size r ⌝ }
 {
@@ -122,17 +122,17 @@ fn less(a: u32, b: u32) -> u32
 }
 
 // The true longitude of a mean planet with its first anomaly, by the planet's rows and its apogee.
-fn corrected(sighra: &[u16], manda: &[u16], apogee: u32, mean: u32, first: u32) -> u32
+fn true_planet(sighra: &[u16], manda: &[u16], apogee: u32, mean: u32, first: u32) -> u32
     requires { ⌜ (length (now sighra) ≡ 13) × ((length (now manda) ≡ 7) × ((largest (now sighra) ≤ 461) × (largest (now manda) ≤ 461))) ⌝ }
     requires { ⌜ (apogee < 1296000) × ((mean < 1296000) × (first < 1296000)) ⌝ }
     ensures { λ r. ⌜ r ≡ truePlanet (record { sighra = now (sighra .entry); manda = now (manda .entry); apogee = apogee }) mean first ⌝ }
 {
-    let half = signed(first, on_line(sighra, within_half(first)) / 2);
+    let half = forwards(first, on_line(sighra, within_half(first)) / 2);
     let place = within_circle(mean + half);
     let anomaly = less(apogee, place);
-    let centre = signed(anomaly, on_line(manda, within_quarter(anomaly)));
+    let centre = forwards(anomaly, on_line(manda, within_quarter(anomaly)));
     let second = less(first, centre);
-    let whole = signed(second, on_line(sighra, within_half(second)));
+    let whole = forwards(second, on_line(sighra, within_half(second)));
     let middle = within_circle(mean + centre);
     within_circle(middle + whole)
 }
@@ -144,7 +144,7 @@ fn outer(sighra: &[u16], manda: &[u16], apogee: u32, sun: u32, own: u32) -> u32
     ensures { λ r. ⌜ r ≡ truePlanet (record { sighra = now (sighra .entry); manda = now (manda .entry); apogee = apogee }) own (differenceOf sun own) ⌝ }
 {
     let first = less(sun, own);
-    corrected(sighra, manda, apogee, own, first)
+    true_planet(sighra, manda, apogee, own, first)
 }
 
 fn mean_on(body: Body, day: Day) -> u32
@@ -169,7 +169,7 @@ fn true_on(planet: Planet, day: Day) -> u32
         Planet::Mercury => {
             let sighra = SIGHRA[1];
             let manda = MANDA[1];
-            corrected(
+            true_planet(
                 &sighra,
                 &manda,
                 APOGEES[1],
@@ -191,7 +191,7 @@ fn true_on(planet: Planet, day: Day) -> u32
         Planet::Venus => {
             let sighra = SIGHRA[3];
             let manda = MANDA[3];
-            corrected(
+            true_planet(
                 &sighra,
                 &manda,
                 APOGEES[3],

@@ -19,19 +19,6 @@ ghost use Rattle.reasons.specs.Conditions.{everyBody, arcConditions, con
 ghost use Rattle.reasons.specs.Reasons.{refusalOn, whyOf, causeOf, numbersOf};
 ghost use Rattle.reasons.specs.Parts.{TestedFor};
 
-// The bodies by their numbers.
-const BODIES: [Body; longitudes::BODIES] = [
-    Body::Sun,
-    Body::Moon,
-    Body::MoonApogee,
-    Body::MoonNode,
-    Body::Mars,
-    Body::MercuryAnomaly,
-    Body::Jupiter,
-    Body::VenusAnomaly,
-    Body::Saturn,
-];
-
 // What shuts a day out, with the value asked and the value found: the end of the span that was passed and the day; the set of weekdays and the day's; the number asked and the
 // day's; a body's arcs, by its number, and its mean longitude. Or the day fits.
 pub enum Reason {
@@ -163,7 +150,7 @@ fn unmet_arcs(arcs: [BodyArcs; 9], day: Day) -> Reason
     let mut body = 0;
     while body < longitudes::BODIES {
         let asked = arcs[body];
-        let tested = test_arcs(asked, BODIES[body], day);
+        let tested = test_arcs(asked, longitudes::IN_ORDER[body], day);
         if !tested.holds {
             let number = body as u32;
             return Reason::Arcs {

@@ -28,14 +28,14 @@ ahead-on-requires c κs = search needs
 scan-from-requires : tie.Need-scan-from-requires Inv-loop μ-loop
 scan-from-requires c κs = search needs
 
-short-way-requires : tie.Need-short-way-requires Inv-loop μ-loop
-short-way-requires c κs =
+shorter-way-requires : tie.Need-shorter-way-requires Inv-loop μ-loop
+shorter-way-requires c κs =
     let start = c .before .before .before .before in
     omega (arith, c .before .before .whole-circle .ensures, c .scan-from .ensures .place, ahead-small (motionOf (start .args .motion)) (whole-positive _ (start .pre .0)) (start .args .first))
 
 loop-holds : tie.Need-loop-holds Inv-loop μ-loop
 loop-holds c =
-    scan-start _ _ _ _ _ _ (c .before .before .before .before .before .pre .1) (c .before .before .before .whole-circle .ensures) (c .before .scan-from .ensures) (c .short-way .ensures)
+    scan-start _ _ _ _ _ _ (c .before .before .before .before .before .pre .1) (c .before .before .before .whole-circle .ensures) (c .before .scan-from .ensures) (c .shorter-way .ensures)
 
 add-next : tie.Need-add-next Inv-loop μ-loop
 add-next c = search needs
@@ -51,8 +51,8 @@ scan-next-requires c κs =
       c .before .before .before .before .ahead-on .ensures,
     )
 
-short-way-requires-2 : tie.Need-short-way-requires-2 Inv-loop μ-loop
-short-way-requires-2 c κs =
+shorter-way-requires-2 : tie.Need-shorter-way-requires-2 Inv-loop μ-loop
+shorter-way-requires-2 c κs =
     let start = c .before .before .before .before .before .before .before .before in
     omega (arith, c .before .before .before .before .before .before .whole-circle .ensures, c .scan-next .ensures .place, ahead-small (motionOf (start .args .motion)) (whole-positive _ (start .pre .0)) (c .before .before .loop .next + 1))
 
@@ -61,14 +61,14 @@ loop-less c = omega arith
 
 loop-again : tie.Need-loop-again Inv-loop μ-loop
 loop-again c =
-    scan-moves _ _ _ _ _ _ _ _ _ _ (c .before .before .before .before .loop .inv) (c .before .before .before .loop-test .taken) (c .before .before .before .before .before .before .before .before .whole-circle .ensures) (c .before .before .scan-next .ensures) (c .before .short-way2 .ensures) (c .if1 .taken)
+    scan-moves _ _ _ _ _ _ _ _ _ _ (c .before .before .before .before .loop .inv) (c .before .before .before .loop-test .taken) (c .before .before .before .before .before .before .before .before .whole-circle .ensures) (c .before .before .scan-next .ensures) (c .before .shorter-way2 .ensures) (c .if1 .taken)
 
 loop-less-2 : tie.Need-loop-less-2 Inv-loop μ-loop
 loop-less-2 c = omega arith
 
 loop-again-2 : tie.Need-loop-again-2 Inv-loop μ-loop
 loop-again-2 c =
-    scan-stays _ _ _ _ _ _ _ _ _ _ (c .before .before .before .before .loop .inv) (c .before .before .before .loop-test .taken) (c .before .before .before .before .before .before .before .before .whole-circle .ensures) (c .before .before .scan-next .ensures) (c .before .short-way2 .ensures) (c .if1 .left)
+    scan-stays _ _ _ _ _ _ _ _ _ _ (c .before .before .before .before .loop .inv) (c .before .before .before .loop-test .taken) (c .before .before .before .before .before .before .before .before .whole-circle .ensures) (c .before .before .scan-next .ensures) (c .before .shorter-way2 .ensures) (c .if1 .left)
 
 returns : tie.Need-returns Inv-loop μ-loop
 returns c = scan-end _ _ _ _ _ _ _ _ (c .before .loop .inv) (c .loop-test .left) (c .before .before .before .before .before .before .divisor-of .ensures)
@@ -83,11 +83,11 @@ farthest-over-spec =
     whole-circle-requires
     ahead-on-requires
     scan-from-requires
-    short-way-requires
+    shorter-way-requires
     loop-holds
     add-next
     scan-next-requires
-    short-way-requires-2
+    shorter-way-requires-2
     loop-less
     loop-again
     loop-less-2

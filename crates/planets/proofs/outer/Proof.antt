@@ -8,11 +8,11 @@ use Rattle.planets.proofs.outer.Tie as tie
 less-requires : tie.Need-less-requires
 less-requires c κs = search needs
 
-corrected-requires : tie.Need-corrected-requires
-corrected-requires c κs = search needs
+true-planet-requires : tie.Need-true-planet-requires
+true-planet-requires c κs = search needs
 
 returns : tie.Need-returns
-returns c = c .corrected .ensures ∙ ap (truePlanet _ _) (c .before .less .ensures .0)
+returns c = c .true-planet .ensures ∙ ap (truePlanet _ _) (c .before .less .ensures .0)
 
 pub outer-spec : {M : Type 1} → statement M
-outer-spec = tie.close (tie.spec less-requires corrected-requires returns)
+outer-spec = tie.close (tie.spec less-requires true-planet-requires returns)

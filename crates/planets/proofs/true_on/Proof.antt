@@ -42,20 +42,20 @@ array-copy-out-sighra-2 c = search needs
 array-copy-out-manda-2 : tie.Need-array-copy-out-manda-2
 array-copy-out-manda-2 c = search needs
 
-slice-aggregate-corrected : tie.Need-slice-aggregate-corrected
-slice-aggregate-corrected c = search needs
+slice-aggregate-true-planet : tie.Need-slice-aggregate-true-planet
+slice-aggregate-true-planet c = search needs
 
-slice-aggregate-corrected-2 : tie.Need-slice-aggregate-corrected-2
-slice-aggregate-corrected-2 c = search needs
+slice-aggregate-true-planet-2 : tie.Need-slice-aggregate-true-planet-2
+slice-aggregate-true-planet-2 c = search needs
 
-array-read-corrected : tie.Need-array-read-corrected
-array-read-corrected c = search needs
+array-read-true-planet : tie.Need-array-read-true-planet
+array-read-true-planet c = search needs
 
 mean-on-requires-3 : tie.Need-mean-on-requires-3
 mean-on-requires-3 c κs = search needs
 
-corrected-requires : tie.Need-corrected-requires
-corrected-requires c κs = search needs
+true-planet-requires : tie.Need-true-planet-requires
+true-planet-requires c κs = search needs
 
 enum-told-3 : tie.Need-enum-told-3
 enum-told-3 c = search needs
@@ -90,20 +90,20 @@ array-copy-out-sighra-4 c = search needs
 array-copy-out-manda-4 : tie.Need-array-copy-out-manda-4
 array-copy-out-manda-4 c = search needs
 
-slice-aggregate-corrected-3 : tie.Need-slice-aggregate-corrected-3
-slice-aggregate-corrected-3 c = search needs
+slice-aggregate-true-planet-3 : tie.Need-slice-aggregate-true-planet-3
+slice-aggregate-true-planet-3 c = search needs
 
-slice-aggregate-corrected-4 : tie.Need-slice-aggregate-corrected-4
-slice-aggregate-corrected-4 c = search needs
+slice-aggregate-true-planet-4 : tie.Need-slice-aggregate-true-planet-4
+slice-aggregate-true-planet-4 c = search needs
 
-array-read-corrected-2 : tie.Need-array-read-corrected-2
-array-read-corrected-2 c = search needs
+array-read-true-planet-2 : tie.Need-array-read-true-planet-2
+array-read-true-planet-2 c = search needs
 
 mean-on-requires-5 : tie.Need-mean-on-requires-5
 mean-on-requires-5 c κs = search needs
 
-corrected-requires-2 : tie.Need-corrected-requires-2
-corrected-requires-2 c κs = search needs
+true-planet-requires-2 : tie.Need-true-planet-requires-2
+true-planet-requires-2 c κs = search needs
 
 enum-told-5 : tie.Need-enum-told-5
 enum-told-5 c = search needs
@@ -135,7 +135,7 @@ returns c = rw (c .before .before .before .before .before .before .enum-told .gi
 
 returns-2 : tie.Need-returns-2
 unfolding rowOf sighraTable mandaTable planetApogees
-returns-2 c = rw (c .before .before .before .before .before .before .enum-told2 .given .1) (c .corrected .ensures ∙ inner-planet 1 _ _ _ (c .before .before .before .before .before .before .before .before .mean-on .ensures .0) (c .before .mean-on3 .ensures .0) refl)
+returns-2 c = rw (c .before .before .before .before .before .before .enum-told2 .given .1) (c .true-planet .ensures ∙ inner-planet 1 _ _ _ (c .before .before .before .before .before .before .before .before .mean-on .ensures .0) (c .before .mean-on3 .ensures .0) refl)
 
 returns-3 : tie.Need-returns-3
 unfolding rowOf sighraTable mandaTable planetApogees
@@ -143,7 +143,7 @@ returns-3 c = rw (c .before .before .before .before .before .before .enum-told3 
 
 returns-4 : tie.Need-returns-4
 unfolding rowOf sighraTable mandaTable planetApogees
-returns-4 c = rw (c .before .before .before .before .before .before .enum-told4 .given .1) (c .corrected2 .ensures ∙ inner-planet 3 _ _ _ (c .before .before .before .before .before .before .before .before .mean-on .ensures .0) (c .before .mean-on5 .ensures .0) refl)
+returns-4 c = rw (c .before .before .before .before .before .before .enum-told4 .given .1) (c .true-planet2 .ensures ∙ inner-planet 3 _ _ _ (c .before .before .before .before .before .before .before .before .mean-on .ensures .0) (c .before .mean-on5 .ensures .0) refl)
 
 returns-5 : tie.Need-returns-5
 unfolding rowOf sighraTable mandaTable planetApogees
@@ -165,11 +165,11 @@ true-on-spec =
     enum-told-2
     array-copy-out-sighra-2
     array-copy-out-manda-2
-    slice-aggregate-corrected
-    slice-aggregate-corrected-2
-    array-read-corrected
+    slice-aggregate-true-planet
+    slice-aggregate-true-planet-2
+    array-read-true-planet
     mean-on-requires-3
-    corrected-requires
+    true-planet-requires
     enum-told-3
     array-copy-out-sighra-3
     array-copy-out-manda-3
@@ -181,11 +181,11 @@ true-on-spec =
     enum-told-4
     array-copy-out-sighra-4
     array-copy-out-manda-4
-    slice-aggregate-corrected-3
-    slice-aggregate-corrected-4
-    array-read-corrected-2
+    slice-aggregate-true-planet-3
+    slice-aggregate-true-planet-4
+    array-read-true-planet-2
     mean-on-requires-5
-    corrected-requires-2
+    true-planet-requires-2
     enum-told-5
     array-copy-out-sighra-5
     array-copy-out-manda-5
