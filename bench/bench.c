@@ -1,5 +1,5 @@
-/* Times the archive's calls side by side with plain C in one run, and prints ratios. `bench once NAME` makes one call for callgrind; `bench stack` prints the deepest stack of
-   any call. */
+/* Times the archive's calls side by side with plain C in one run, and prints ratios. `bench once NAME` makes one search,
+   or a call on a thousand days and two, for callgrind; `bench stack` prints the deepest stack of any call. */
 #include "../include/grahalaghava.h"
 #include "plain.h"
 #include <pthread.h>
@@ -42,6 +42,26 @@ static uint32_t saka(uint32_t n) { return graha_saka_day(1442 + n % 1100, n % 12
 static uint32_t saka_plain(uint32_t n) { return plain_saka_day(1442 + n % 1100, n % 12, n % 30, n % 7); }
 static uint32_t pending(uint32_t n) { return graha_saka_pending_day(1442 + n % 1100, n % 12, n % 30, n % 7, n % 2); }
 static uint32_t pending_plain(uint32_t n) { return plain_saka_pending_day(1442 + n % 1100, n % 12, n % 30, n % 7, n % 2); }
+
+/* Calls whose instructions are counted, on days from all over the table. */
+static const struct {
+    const char *name;
+    number ours, plain;
+} COUNTED[] = {{"nakshatra", graha_nakshatra, plain_nakshatra},
+               {"jupiter", graha_true_jupiter, plain_true_jupiter},
+               {"venus", graha_true_venus, plain_true_venus},
+               {"saka", saka, saka_plain}};
+
+static int counted(const char *name) {
+    int plain = !strncmp(name, "plain-", 6);
+    for (size_t row = 0; row < sizeof COUNTED / sizeof COUNTED[0]; row++)
+        if (!strcmp(name + 6 * plain, COUNTED[row].name)) {
+            number call = plain ? COUNTED[row].plain : COUNTED[row].ours;
+            for (uint32_t day = 0; day < DAYS; day += DAYS / 1000) sink += call(day);
+            return 1;
+        }
+    return 0;
+}
 
 /* Thirty records in one call, from every thirtieth day on. The call is of an archive of its own, records. */
 uint32_t fill_records(uint32_t edition, plain_record *records, uint64_t len);
@@ -130,7 +150,9 @@ static void *places(void *unused) {
     return unused;
 }
 static void *orders(void *unused) {
-    sink += graha_place_result(7, 5) + graha_follow_result(7, 5) + graha_follow_order(7, 5) + (uint64_t)(graha_place_angle(7, 5) + graha_follow_rate(7, 5));
+    sink += graha_place_result(7, 5) + graha_place_order(7, 5) + graha_follow_result(7, 5) + graha_follow_order(7, 5) +
+            (uint64_t)(graha_place_angle(7, 5) + graha_follow_rate(7, 5));
+    sink += graha_carry_out_result(1.0, 0.0, 2, 0.5) + (uint64_t)(graha_carry_out_angle(1.0, 0.0, 2, 0.5) + graha_carry_out_rate(1.0, 0.0, 2, 0.5));
     return unused;
 }
 static void *calendar(void *unused) {
@@ -163,7 +185,7 @@ int main(int count, char **word) {
         else if (!strcmp(word[2], "dense")) ours(DENSE, ROOM);
         else if (!strcmp(word[2], "plain-sparse")) plain(SPARSE, ROOM);
         else if (!strcmp(word[2], "plain-dense")) plain(DENSE, ROOM);
-        else return 2;
+        else return counted(word[2]) ? 0 : 2;
         return 0;
     }
     if (count == 2 && !strcmp(word[1], "looked")) {

@@ -1,4 +1,5 @@
-/* A small host program: it dates a day, prints its places, sets the nine arms of a planet table, drives nine for three days, dates a Saka lunar date, and looks for the Mondays with the Sun in the first degree. */
+/* A small host program: it dates a day, prints its places, sets the nine arms of a planet table, drives nine for three
+ * days, dates a Saka lunar date, and looks for the Mondays with the Sun in the first degree. */
 #include <stdio.h>
 #include <stdlib.h>
 
@@ -58,7 +59,16 @@ typedef struct {
     double angle, rate;
 } arm;
 
-/* Drives nine arms for three days, one for each body at its mean place: each day an arm goes to its angle, and then runs until the next, or holds. */
+/* The arm after an order. (These orders are the library's own, and none is refused.) */
+static arm carried_out(arm now, uint32_t order, double value)
+{
+    arm after = {graha_carry_out_angle(now.angle, now.rate, order, value),
+                 graha_carry_out_rate(now.angle, now.rate, order, value)};
+    return after;
+}
+
+/* Drives nine arms for three days, one for each body at its mean place: each day an arm is told to go to its angle, and
+ * then to run until the next day, or to hold. */
 static int drive_arms(uint32_t first)
 {
     for (uint32_t body = 0; body < 9; body++) {
@@ -67,10 +77,11 @@ static int drive_arms(uint32_t first)
         for (uint32_t day = first; day < first + 3; day++) {
             if (graha_place_result(day, body) != GRAHA_ACCEPTED || graha_follow_result(day, body) != GRAHA_ACCEPTED)
                 return 0;
-            driven.angle = graha_place_angle(day, body);
-            driven.rate = graha_follow_rate(day, body);
+            uint32_t order = graha_follow_order(day, body);
+            driven = carried_out(driven, graha_place_order(day, body), graha_place_angle(day, body));
+            driven = carried_out(driven, order, graha_follow_rate(day, body));
             printf("%s at %.4f, ", day == first ? "" : ";", driven.angle);
-            if (graha_follow_order(day, body) == GRAHA_RUN)
+            if (order == GRAHA_RUN)
                 printf("run at %+.4f", driven.rate);
             else
                 printf("hold");

@@ -21,7 +21,7 @@ enum {
     GRAHA_ACCEPTED = 0,
     GRAHA_NO_SUCH_DATE = 1,      /* no such civil date; 5 to 14 October 1582 are none */
     GRAHA_OUT_OF_RANGE = 2,      /* a day, a pair or a Saka year outside the table, or the step past its last day */
-    GRAHA_BAD_INPUT = 3,         /* months, tithis or weekday of a Saka date */
+    GRAHA_BAD_INPUT = 3,         /* months, tithis or weekday of a Saka date; an order above 2 to be carried out */
     GRAHA_NO_SUCH_WEEKDAY = 4,   /* none of a Saka date's three days has the weekday */
     GRAHA_LAST_BEFORE_FIRST = 5, /* a span whose last day is before its first */
     GRAHA_BAD_CONDITION = 6,     /* a search's weekday, arc start or arc width */
@@ -103,19 +103,29 @@ uint32_t graha_yoga(uint32_t day);
 /* Karana, 1 to 11: 1 to 7 in turn, and 8 to 11 fixed. */
 uint32_t graha_karana(uint32_t day);
 
-/* Orders for the arms of a table, whose boards take doubles. A body is 0 Sun, 1 Moon, 2 Moon's apogee, 3 Moon's node, 4 Mars, 5 Mercury's anomaly,
- * 6 Jupiter, 7 Venus' anomaly or 8 Saturn, and stands at its mean place. Result 2: a day above 401599; 16: a body above 8. */
+/* Orders for the arms of a table, whose boards take doubles: an order is one of these numbers, and a value. A body is
+ * 0 Sun, 1 Moon, 2 Moon's apogee, 3 Moon's node, 4 Mars, 5 Mercury's anomaly, 6 Jupiter, 7 Venus' anomaly or 8 Saturn,
+ * and stands at its mean place. Result 2: a day above 401599; 16: a body above 8. */
 enum { GRAHA_HOLD = 0, GRAHA_GO = 1, GRAHA_RUN = 2 };
-/* To place a body is to go to its angle: its seconds of arc divided by 3600, rounded once to the nearest double. At least 0.0 and below 360.0, and
- * exact where the seconds are a multiple of 225; 0.0 where refused. */
+/* To place a body is to go to its angle: its seconds of arc divided by 3600, rounded once to the nearest double. At
+ * least 0.0 and below 360.0, and exact where the seconds are a multiple of 225. The order is GRAHA_GO; where refused it
+ * is GRAHA_HOLD, and the angle 0.0. */
 uint32_t graha_place_result(uint32_t day, uint32_t body);
+uint32_t graha_place_order(uint32_t day, uint32_t body);
 double graha_place_angle(uint32_t day, uint32_t body);
-/* To follow it is to run until the next day at its rate, in degrees a day: the short way to the next day's seconds, negative backwards (half a circle
- * is backwards), divided and rounded alike; at least -1.0 and below 14.0. On the last day the order is to hold. The order is
- * GRAHA_HOLD or GRAHA_RUN; the rate is 0.0 where the order is to hold, as it is where refused. No angle and no rate is -0.0, a NaN or an infinity. */
+/* To follow it is to run until the next day at its rate, in degrees a day: the short way to the next day's seconds,
+ * negative backwards (half a circle is backwards), divided and rounded alike; at least -1.0 and below 14.0. On the last
+ * day the order is to hold. The order is GRAHA_HOLD or GRAHA_RUN; the rate is 0.0 where the order is to hold, as it is
+ * where refused. No angle and no rate of these is -0.0, a NaN or an infinity. */
 uint32_t graha_follow_result(uint32_t day, uint32_t body);
 uint32_t graha_follow_order(uint32_t day, uint32_t body);
 double graha_follow_rate(uint32_t day, uint32_t body);
+/* The state of an arm, its angle and its rate, after an order with its value, an angle or a rate. Holding leaves the
+ * angle and makes the rate 0.0; going sets the angle and makes the rate 0.0; running sets the rate alone. Any doubles
+ * are allowed, and are handed on as they are. Result 3: an order above 2; then both are 0.0. */
+uint32_t graha_carry_out_result(double angle, double rate, uint32_t order, double value);
+double graha_carry_out_angle(double angle, double rate, uint32_t order, double value);
+double graha_carry_out_rate(double angle, double rate, uint32_t order, double value);
 
 /* Every day from first to last, both counted, that has the weekday and whose mean Sun is in the arc from sun_start (up to 1295999),
  * sun_width seconds wide (1 to 1296000). With result 0 the days stand in the list, earliest first, four bytes a day, low byte first, and

@@ -103,12 +103,17 @@ unsafe extern "C" {
     pub fn graha_sign_entries(first: u32, last: u32, list: *mut u8, list_len: usize) -> u32;
     pub safe fn graha_sign_entries_length(first: u32, last: u32) -> u32;
 
-    /// Orders for the arms: to go to an angle, and to run (2) at a rate or to hold (0).
+    /// Orders for the arms: to go (1) to an angle, and to run (2) at a rate or to hold (0).
     pub safe fn graha_place_result(day: u32, body: u32) -> u32;
+    pub safe fn graha_place_order(day: u32, body: u32) -> u32;
     pub safe fn graha_place_angle(day: u32, body: u32) -> f64;
     pub safe fn graha_follow_result(day: u32, body: u32) -> u32;
     pub safe fn graha_follow_order(day: u32, body: u32) -> u32;
     pub safe fn graha_follow_rate(day: u32, body: u32) -> f64;
+    /// An arm's state after an order and its value.
+    pub safe fn graha_carry_out_result(angle: f64, rate: f64, order: u32, value: f64) -> u32;
+    pub safe fn graha_carry_out_angle(angle: f64, rate: f64, order: u32, value: f64) -> f64;
+    pub safe fn graha_carry_out_rate(angle: f64, rate: f64, order: u32, value: f64) -> f64;
 }
 
 #[link(name = "bridge", kind = "static")]
@@ -119,7 +124,7 @@ unsafe extern "C" {
     pub fn bridge_length(query: *const u8, query_len: usize) -> u32;
     pub fn bridge_looked(query: *const u8, query_len: usize) -> u32;
 
-    /// A body above 8 is Saturn too.
+    /// A body above 8 is refused with 16, on numbers that are no days too.
     pub safe fn bridge_longitude_result(body: u32, day: u32) -> u32;
     pub safe fn bridge_longitude_seconds(body: u32, day: u32) -> u32;
     pub safe fn bridge_longitude_remainder(body: u32, day: u32) -> u32;
@@ -144,7 +149,10 @@ unsafe extern "C" {
     pub safe fn bridge_elements_nakshatra(edition: u32, day: u32) -> u32;
     pub safe fn bridge_elements_yoga(edition: u32, day: u32) -> u32;
     pub safe fn bridge_elements_karana(edition: u32, day: u32) -> u32;
-    /// One alone: 0 true Moon, 1 tithi, 2 nakshatra, 3 yoga, 4 and above karana.
+    /// The true Moon alone.
+    pub safe fn bridge_moon_result(edition: u32, day: u32) -> u32;
+    pub safe fn bridge_moon_number(edition: u32, day: u32) -> u32;
+    /// One alone: 0 tithi, 1 nakshatra, 2 yoga, 3 karana. Any other number is refused with 16, before all else.
     pub safe fn bridge_element_result(which: u32, edition: u32, day: u32) -> u32;
     pub safe fn bridge_element_number(which: u32, edition: u32, day: u32) -> u32;
 

@@ -13,6 +13,25 @@ pub enum Order {
     Run(u64),
 }
 
+/// "An arm's state holds its angle in degrees and its rate in degrees a day."
+#[derive(Clone, Copy, PartialEq, Eq, Debug)]
+pub struct Arm {
+    pub angle: u64,
+    pub rate: u64,
+}
+
+impl Arm {
+    /// "Holding leaves the angle and makes the rate 0; going sets the angle and makes the rate 0; running
+    /// sets the rate alone."
+    pub fn after(self, order: Order) -> Arm {
+        match order {
+            Order::Hold => Arm { rate: 0, ..self },
+            Order::Go(angle) => Arm { angle, rate: 0 },
+            Order::Run(rate) => Arm { rate, ..self },
+        }
+    }
+}
+
 /// The quotients by 3600 of all seconds of a circle, "rounded once", reckoned once.
 pub struct Degrees(Vec<u64>);
 

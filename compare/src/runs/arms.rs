@@ -1,15 +1,15 @@
 //! Orders for the arms, over the host's calls: the nine bodies placed and followed on all days of the
-//! table, floats compared bit for bit, and refused days and bodies.
+//! table, floats compared bit for bit, refused days and bodies, and orders carried out.
 
 use crate::calls::*;
 use crate::checks::Checks;
 use crate::random::Random;
 use crate::reference::almanac::Almanac;
-use crate::reference::arms::{given, Degrees, Order};
+use crate::reference::arms::{given, Arm, Degrees, Order};
 use crate::reference::days::LAST_DAY;
 use crate::reference::exact::short_way;
 use crate::reference::float::{nearest, parts, SIGN};
-use crate::reference::refusal::result_number;
+use crate::reference::refusal::{result_number, BAD_INPUT};
 
 use super::{NO_DAYS, WIDTH_EDGES};
 
@@ -42,13 +42,16 @@ fn compare_float(
     checks.same("a number, and not −0.0", input, true, number);
 }
 
-/// All five calls.
+/// The orders' calls; and on each day, for one body, an arm that carries out the one and then the other.
 fn compare(checks: &mut Checks, almanac: &Almanac, degrees: &Degrees, day: u32, body: u32) {
     let input = || format!("day {day}, body {body}");
     let place = degrees.place(almanac, day, body);
     let result = result_number(&place);
     let came = graha_place_result(day, body);
     checks.same("graha_place_result", input, result, came);
+    let order = number_of(given(&place));
+    let came = graha_place_order(day, body);
+    checks.same("graha_place_order", input, order, came);
     let angle = float_of(given(&place));
     let came = graha_place_angle(day, body);
     compare_float(checks, "graha_place_angle", input, angle, came);
@@ -63,6 +66,78 @@ fn compare(checks: &mut Checks, almanac: &Almanac, degrees: &Degrees, day: u32, 
     let rate = float_of(given(&follow));
     let came = graha_follow_rate(day, body);
     compare_float(checks, "graha_follow_rate", input, rate, came);
+    if day % 9 == body {
+        driven(checks, input, &[given(&place), given(&follow)]);
+    }
+}
+
+/// The arm as the host's calls have it after an order, its angle and its rate.
+fn carried_out(arm: [u64; 2], order: u32, value: u64) -> (u32, [u64; 2]) {
+    let [angle, rate] = arm.map(f64::from_bits);
+    let value = f64::from_bits(value);
+    let result = graha_carry_out_result(angle, rate, order, value);
+    let angle_after = graha_carry_out_angle(angle, rate, order, value);
+    let rate_after = graha_carry_out_rate(angle, rate, order, value);
+    (result, [angle_after.to_bits(), rate_after.to_bits()])
+}
+
+/// An arm that carries out one order after the other.
+fn driven(checks: &mut Checks, input: impl Fn() -> String, orders: &[Order]) {
+    let mut arm = Arm {
+        angle: nearest(7, 4),
+        rate: nearest(-1, 2),
+    };
+    for order in orders {
+        let state = [arm.angle, arm.rate];
+        let came = carried_out(state, number_of(*order), float_of(*order));
+        arm = arm.after(*order);
+        checks.same("graha_carry_out", &input, (0, [arm.angle, arm.rate]), came);
+    }
+}
+
+/// States and values of every kind of float, and any bits: each order's, and numbers that are no order's.
+fn carried(checks: &mut Checks) {
+    const KINDS: [u64; 10] = [
+        0,
+        SIGN,
+        1,
+        0x000F_FFFF_FFFF_FFFF,
+        0x3FF0_0000_0000_0000,
+        0xC076_8000_0000_0000,
+        0x7FEF_FFFF_FFFF_FFFF,
+        0x7FF0_0000_0000_0000,
+        0xFFF0_0000_0000_0000,
+        0x7FF8_0000_0000_0001,
+    ];
+    let mut random = Random::from_seed();
+    let mut drawn = || u64::from(random.number()) << 32 | u64::from(random.number());
+    let any: Vec<u64> = (0..30)
+        .map(|_| drawn())
+        .filter(|bits| bits >> 52 & 0x7FF != 0x7FF)
+        .collect();
+    let floats = [&KINDS[..], &any].concat();
+    for angle in &floats {
+        for rate in &floats {
+            for value in &floats {
+                for number in (0..=4).chain([256, u32::MAX]) {
+                    let arm = Arm {
+                        angle: *angle,
+                        rate: *rate,
+                    };
+                    let expected = match number {
+                        0 => (0, arm.after(Order::Hold)),
+                        1 => (0, arm.after(Order::Go(*value))),
+                        2 => (0, arm.after(Order::Run(*value))),
+                        _ => (BAD_INPUT, Arm { angle: 0, rate: 0 }),
+                    };
+                    let input = || format!("{angle:x}, {rate:x}, order {number}, {value:x}");
+                    let came = carried_out([*angle, *rate], number, *value);
+                    let expected = (expected.0, [expected.1.angle, expected.1.rate]);
+                    checks.same("graha_carry_out", input, expected, came);
+                }
+            }
+        }
+    }
 }
 
 /// Fractions whose nearest floats are known: whole numbers, ties and what is just beside them, a carry
@@ -167,6 +242,7 @@ pub fn run(checks: &mut Checks, almanac: &Almanac) {
     known_floats(checks);
     quotients(checks, &degrees);
     ways(checks);
+    carried(checks);
     for day in 0..=LAST_DAY {
         for body in 0..9 {
             compare(checks, almanac, &degrees, day, body);

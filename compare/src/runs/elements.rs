@@ -7,7 +7,7 @@ use crate::random::Random;
 use crate::reference::almanac::Almanac;
 use crate::reference::days::LAST_DAY;
 use crate::reference::panchanga::Elements;
-use crate::reference::refusal::{result_number, Answer};
+use crate::reference::refusal::{result_number, Answer, NO_SUCH_BODY};
 
 use super::{EDITIONS, NO_EDITIONS, WIDTH_EDGES};
 
@@ -35,15 +35,16 @@ const TOGETHER: [TogetherCall; 6] = [
     }),
 ];
 
-/// The element that the single calls know by this number: from 4 on it is the karana.
-fn single(which: u32, elements: &Elements) -> u32 {
-    match which {
-        0 => elements.moon,
-        1 => elements.tithi,
-        2 => elements.nakshatra,
-        3 => elements.yoga,
-        _ => elements.karana,
-    }
+/// The element that the single calls know by this number.
+fn single(which: u32, expected: Answer<&Elements>) -> Answer<u32> {
+    let element: fn(&Elements) -> u32 = match which {
+        0 => |all| all.tithi,
+        1 => |all| all.nakshatra,
+        2 => |all| all.yoga,
+        3 => |all| all.karana,
+        _ => return Err(NO_SUCH_BODY),
+    };
+    expected.map(element)
 }
 
 fn compare_together(checks: &mut Checks, edition: u32, number: u32, expected: Answer<&Elements>) {
@@ -65,17 +66,31 @@ fn compare_single(
     expected: Answer<&Elements>,
 ) {
     let input = || format!("element {which}, edition {edition}, day {number}");
-    let result = result_number(&expected);
+    let expected = single(which, expected);
     let came = bridge_element_result(which, edition, number);
-    checks.same("bridge_element_result", input, result, came);
-    let expected = expected.map_or(0, |elements| single(which, elements));
+    checks.same(
+        "bridge_element_result",
+        input,
+        result_number(&expected),
+        came,
+    );
     let came = bridge_element_number(which, edition, number);
-    checks.same("bridge_element_number", input, expected, came);
+    checks.same("bridge_element_number", input, expected.unwrap_or(0), came);
+}
+
+fn compare_moon(checks: &mut Checks, edition: u32, number: u32, expected: Answer<&Elements>) {
+    let input = || format!("edition {edition}, day {number}");
+    let came = bridge_moon_result(edition, number);
+    checks.same("bridge_moon_result", input, result_number(&expected), came);
+    let came = bridge_moon_number(edition, number);
+    let expected = expected.map_or(0, |elements| elements.moon);
+    checks.same("bridge_moon_number", input, expected, came);
 }
 
 fn compare(checks: &mut Checks, almanac: &Almanac, edition: u32, number: u32) {
     let expected = almanac.elements(edition, number);
     compare_together(checks, edition, number, expected);
+    compare_moon(checks, edition, number, expected);
     for which in 0..=5 {
         compare_single(checks, which, edition, number, expected);
     }
@@ -105,7 +120,7 @@ fn other_editions(checks: &mut Checks, almanac: &Almanac, random: &mut Random) {
     }
 }
 
-/// Numbers of an element above 5, in each kind of edition and on each kind of day.
+/// Numbers that are no element's, in each kind of edition and on each kind of day.
 fn other_elements(checks: &mut Checks, almanac: &Almanac, random: &mut Random) {
     let any = [(); 40].map(|()| random.number());
     let edges = [0, 33_649, LAST_DAY, LAST_DAY + 1, u32::MAX];

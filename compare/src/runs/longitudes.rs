@@ -8,7 +8,7 @@ use crate::reference::almanac::Almanac;
 use crate::reference::days::LAST_DAY;
 use crate::reference::longitudes::{longitudes, Longitude, SATURN};
 use crate::reference::motions::{added_up, Exact};
-use crate::reference::refusal::{result_number, Answer};
+use crate::reference::refusal::{result_number, Answer, NO_SUCH_BODY};
 
 use super::WIDTH_EDGES;
 
@@ -19,10 +19,13 @@ const CALLS: [(&str, extern "C" fn(u32, u32) -> u32); 4] = [
     ("bridge_longitude_divisor", bridge_longitude_divisor),
 ];
 
-/// The mean place of a body that the bridge knows by this number: from 8 on it is Saturn.
+/// The mean place of a body that the bridge knows by this number: a body above 8 is refused first.
 fn expected(almanac: &Almanac, body: u32, number: u32) -> Answer<Longitude> {
+    if body as usize > SATURN {
+        return Err(NO_SUCH_BODY);
+    }
     let day = almanac.day(number)?;
-    Ok(longitudes(day.pair)[SATURN.min(body as usize)])
+    Ok(longitudes(day.pair)[body as usize])
 }
 
 fn compare(checks: &mut Checks, body: u32, number: u32, expected: &Answer<Longitude>) {

@@ -6,9 +6,10 @@ use lib.Dec.{leb, ltb, eqb}
 use lib.IntN.{pos}
 use lib.Ieee.{Float, fin}
 use Rattle.days.specs.Days.{lastDay, pairAt}
-use Rattle.days.specs.Refusals.{accepted, outOfRange, noSuchBody}
+use Rattle.days.specs.Refusals.{accepted, outOfRange, badInput, noSuchBody}
 use Rattle.longitudes.specs.Longitudes.{longitudeAt}
 use Rattle.arms.specs.declared.Arm.{Arm}
+use Rattle.arms.specs.declared.ArmAnswer.{ArmAnswer}
 use Rattle.arms.specs.declared.Order.{Order}
 use Rattle.arms.specs.declared.Order.the-variants.{Hold, Go, Run}
 use Rattle.arms.specs.declared.OrderAnswer.{OrderAnswer}
@@ -34,6 +35,17 @@ unfoldable pub orderValue : Order → Float
 orderValue Hold = noDegrees
 orderValue (Go angle) = angle
 orderValue (Run rate) = rate
+
+abbrev pub theArm : Arm → ArmAnswer
+theArm arm = record { refusal = accepted; arm = arm }
+
+-- the arm after the order with a number and a value; an order above 2 is refused, and gives all zeros
+unfoldable pub carriedOutNumbered : Arm → ℕ → Float → ArmAnswer
+carriedOutNumbered arm number value =
+    cond (eqb number 0) (theArm (carriedOut arm Hold))
+    (cond (eqb number 1) (theArm (carriedOut arm (Go value)))
+    (cond (eqb number 2) (theArm (carriedOut arm (Run value)))
+    (record { refusal = badInput; arm = record { angle = noDegrees; rate = noDegrees } })))
 
 -- an answer in numbers: the refusal or 0, and the order's two
 pub record AnswerNumbers : Type 0 where

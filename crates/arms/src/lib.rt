@@ -8,7 +8,7 @@ ghost use Prim.Native.Nat.{_+_, _≤_, _<_};
 ghost use Rattle.days.specs.Days.{lastDay};
 ghost use Rattle.longitudes.specs.Longitudes.{differenceOf};
 ghost use Rattle.arms.specs.Degrees.{degreesOf};
-ghost use Rattle.arms.specs.Orders.{orderNumber, orderValue, carriedOut, orderRefusal, angleOn, rateOn, placeOf, followOf, answerNumbers};
+ghost use Rattle.arms.specs.Orders.{orderNumber, orderValue, carriedOut, carriedOutNumbered, orderRefusal, angleOn, rateOn, placeOf, followOf, answerNumbers};
 ghost use Rattle.arms.specs.Ranges.{IsAngle, ExactAngle, IsRate};
 ghost use Rattle.arms.specs.Parts.{Reckonable, stepsOf, secondsBy, Small, StepsFor, signedWay};
 
@@ -30,6 +30,20 @@ pub struct OrderAnswer {
     pub refusal: u32,
     pub order: Order,
 }
+
+// An arm, or a refusal's number and all zeros.
+pub struct ArmAnswer {
+    pub refusal: u32,
+    pub arm: Arm,
+}
+
+const NO_ARM: ArmAnswer = ArmAnswer {
+    refusal: refusal::BAD_INPUT,
+    arm: Arm {
+        angle: 0.0,
+        rate: 0.0,
+    },
+};
 
 const HALF: u32 = CIRCLE / 2;
 
@@ -78,6 +92,27 @@ impl Arm {
     }
 }
 
+fn accepted(arm: Arm) -> ArmAnswer
+    ensures { λ r. ⌜ r ≡ record { refusal = 0; arm = arm } ⌝ }
+{
+    ArmAnswer {
+        refusal: refusal::NONE,
+        arm,
+    }
+}
+
+// The arm after an order that comes as its number and its value; an order above 2 is refused.
+pub fn carry_out_numbered(arm: Arm, number: u32, value: f64) -> ArmAnswer
+    ensures { λ r. ⌜ r ≡ carriedOutNumbered arm number value ⌝ }
+{
+    match number {
+        0 => accepted(arm.carry_out(Order::Hold)),
+        1 => accepted(arm.carry_out(Order::Go(value))),
+        2 => accepted(arm.carry_out(Order::Run(value))),
+        _ => NO_ARM,
+    }
+}
+
 // Seconds of arc as degrees. The cast is exact, so the division alone rounds.
 fn degrees(seconds: i32) -> f64
     ensures { λ r. ⌜ r ≡ degreesOf seconds ⌝ }
@@ -86,7 +121,7 @@ fn degrees(seconds: i32) -> f64
 }
 
 // The signed short way, of a way forwards; half a circle is backwards.
-fn short_way(forwards: u32) -> i32
+fn signed_way(forwards: u32) -> i32
     requires { ⌜ forwards < 1296000 ⌝ }
     ensures { λ r. ⌜ r ≡ signedWay forwards ⌝ }
 {
@@ -184,7 +219,7 @@ fn rate_on(day: u32, body: u32) -> f64
 {
     let steps = steps_for(body);
     let forwards = forwards_by(steps, day);
-    degrees(short_way(forwards))
+    degrees(signed_way(forwards))
 }
 
 // The day's refusal, then the body's, or 0.

@@ -5,8 +5,10 @@ use Prim.Native.Nat.{ℕ}
 use lib.ListN.{getD}
 use Rattle.days.specs.declared.Day.{Day}
 use Rattle.days.specs.declared.NumberAnswer.{NumberAnswer}
-use Rattle.panchanga.specs.OnDays.{trueMoonOf, tithiOf, nakshatraOf, yogaOf, karanaOf}
+use Rattle.days.specs.Days.{noNumber}
+use Rattle.days.specs.Refusals.{noSuchBody}
+use Rattle.panchanga.specs.OnDays.{tithiOf, nakshatraOf, yogaOf, karanaOf}
 
--- the true Moon, the tithi, the nakshatra and the yoga; from 4 on the karana
+-- the tithi, the nakshatra, the yoga and the karana; a number above 3 is refused, in any edition and on any day
 unfoldable pub elementFrom : ℕ → ℕ → Day → NumberAnswer
-elementFrom n ed d = getD (trueMoonOf ed d ∷ tithiOf ed d ∷ nakshatraOf ed d ∷ yogaOf ed d ∷ []) n (karanaOf ed d)
+elementFrom n ed d = getD (tithiOf ed d ∷ nakshatraOf ed d ∷ yogaOf ed d ∷ karanaOf ed d ∷ []) n (noNumber noSuchBody)

@@ -1,9 +1,11 @@
-// The true Sun and Moon and the elements of a day in an edition as C calls: all together, each number by a call of its own, and those that the library hands back one by one.
+// The true Sun and Moon and the elements of a day in an edition as C calls: all together, each number by a call of its
+// own, and those that the library hands back one by one.
 use days::NumberAnswer;
+use days::refusal;
 use panchanga::Panchanga;
 ghost use mathlib.Core.Path.{_≡_};
 ghost use Rattle.days.specs.Days.{pairAt};
-ghost use Rattle.panchanga.specs.OnDays.{panchangaOf};
+ghost use Rattle.panchanga.specs.OnDays.{trueMoonOf, panchangaOf};
 ghost use Rattle.bridge.specs.Elements.{elementFrom};
 ghost use Rattle.bridge.specs.Numbers.{BridgeElements, BridgeElement};
 
@@ -62,17 +64,37 @@ pub extern "C" fn bridge_elements_karana(edition: u32, day: u32) -> u32
     elements(edition, day).karana
 }
 
-// The true Moon for 0, the tithi for 1, the nakshatra for 2, the yoga for 3, and from 4 on the karana.
+fn moon(edition: u32, day: u32) -> NumberAnswer
+    ensures { λ r. ⌜ BridgeElement (trueMoonOf edition (pairAt day)) r ⌝ }
+{
+    panchanga::true_moon(edition, super::pair(day))
+}
+
+#[no_mangle]
+pub extern "C" fn bridge_moon_result(edition: u32, day: u32) -> u32
+    ensures { λ r. ⌜ r ≡ trueMoonOf edition (pairAt day) .refusal ⌝ }
+{
+    moon(edition, day).refusal
+}
+
+#[no_mangle]
+pub extern "C" fn bridge_moon_number(edition: u32, day: u32) -> u32
+    ensures { λ r. ⌜ r ≡ trueMoonOf edition (pairAt day) .number ⌝ }
+{
+    moon(edition, day).number
+}
+
+// The tithi for 0, the nakshatra for 1, the yoga for 2, the karana for 3; others are refused as a body above 8 is.
 fn element(which: u32, edition: u32, day: u32) -> NumberAnswer
     ensures { λ r. ⌜ BridgeElement (elementFrom which edition (pairAt day)) r ⌝ }
 {
     let pair = super::pair(day);
     match which {
-        0 => panchanga::true_moon(edition, pair),
-        1 => panchanga::tithi(edition, pair),
-        2 => panchanga::nakshatra(edition, pair),
-        3 => panchanga::yoga(edition, pair),
-        _ => panchanga::karana(edition, pair),
+        0 => panchanga::tithi(edition, pair),
+        1 => panchanga::nakshatra(edition, pair),
+        2 => panchanga::yoga(edition, pair),
+        3 => panchanga::karana(edition, pair),
+        _ => NumberAnswer::refused(refusal::NO_SUCH_BODY),
     }
 }
 

@@ -1,6 +1,8 @@
 // The orders for a table's arms, by the numbers of a day and a body: each number of an answer by a call of its own, an angle or a rate as a double.
+use arms::Arm;
+use arms::ArmAnswer;
 ghost use mathlib.Core.Path.{_≡_};
-ghost use Rattle.arms.specs.Orders.{placeOf, followOf};
+ghost use Rattle.arms.specs.Orders.{placeOf, followOf, carriedOutNumbered};
 ghost use Rattle.arms.specs.Ranges.{IsAngle, ExactAngle, IsRate};
 
 #[no_mangle]
@@ -8,6 +10,15 @@ pub extern "C" fn graha_place_result(day: u32, body: u32) -> u32
     ensures { λ r. ⌜ r ≡ placeOf day body .refusal ⌝ }
 {
     arms::place(day, body).refusal
+}
+
+// 1 to go; 0 to hold where it is refused.
+#[no_mangle]
+pub extern "C" fn graha_place_order(day: u32, body: u32) -> u32
+    ensures { λ r. ⌜ r ≡ placeOf day body .order ⌝ }
+{
+    let go = arms::place(day, body).order;
+    go.number()
 }
 
 // In degrees; 0 where it is refused.
@@ -45,4 +56,32 @@ pub extern "C" fn graha_follow_rate(day: u32, body: u32) -> f64
 {
     let run = arms::follow(day, body).order;
     run.value()
+}
+
+fn carried_out(angle: f64, rate: f64, order: u32, value: f64) -> ArmAnswer
+    ensures { λ r. ⌜ r ≡ carriedOutNumbered (record { angle = angle; rate = rate }) order value ⌝ }
+{
+    arms::carry_out_numbered(Arm { angle, rate }, order, value)
+}
+
+// The arm after an order, by its number and its value: the refusal of an order above 2, or 0.
+#[no_mangle]
+pub extern "C" fn graha_carry_out_result(angle: f64, rate: f64, order: u32, value: f64) -> u32
+    ensures { λ r. ⌜ r ≡ carriedOutNumbered (record { angle = angle; rate = rate }) order value .refusal ⌝ }
+{
+    carried_out(angle, rate, order, value).refusal
+}
+
+#[no_mangle]
+pub extern "C" fn graha_carry_out_angle(angle: f64, rate: f64, order: u32, value: f64) -> f64
+    ensures { λ r. ⌜ r ≡ carriedOutNumbered (record { angle = angle; rate = rate }) order value .arm .angle ⌝ }
+{
+    carried_out(angle, rate, order, value).arm.angle
+}
+
+#[no_mangle]
+pub extern "C" fn graha_carry_out_rate(angle: f64, rate: f64, order: u32, value: f64) -> f64
+    ensures { λ r. ⌜ r ≡ carriedOutNumbered (record { angle = angle; rate = rate }) order value .arm .rate ⌝ }
+{
+    carried_out(angle, rate, order, value).arm.rate
 }

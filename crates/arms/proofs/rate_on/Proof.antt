@@ -17,8 +17,8 @@ steps-for-requires c κs = search needs
 forwards-by-requires : tie.Need-forwards-by-requires
 forwards-by-requires c κs = search needs
 
-short-way-requires : tie.Need-short-way-requires
-short-way-requires c κs = search needs
+signed-way-requires : tie.Need-signed-way-requires
+signed-way-requires c κs = search needs
 
 degrees-requires : tie.Need-degrees-requires
 degrees-requires c κs = search needs
@@ -28,10 +28,10 @@ returns c =
     let at = c .before .before .before .before in
     let body = c .before .before .before .steps-for .ensures in
     let forwards = c .before .before .forwards-by .ensures .0 ∙ ap₂ differenceOf (body .seconds _ (omega (arith, at .pre .0))) (body .seconds _ (omega (arith, at .pre .0))) in
-    let way = c .before .short-way .ensures ∙ signed-way _ _ _ forwards in
+    let way = c .before .signed-way .ensures ∙ signed-way _ _ _ forwards in
     c .degrees .ensures ∙ ap degreesOf (toZ-ofZ w32 _ (subst (SFits w32) (sym way) (way-fits _ _)) ∙ way)
 
 pub rate-on-spec : {M : Type 1} → statement M
 rate-on-spec =
     tie.close
-    (tie.spec steps-for-requires forwards-by-requires short-way-requires degrees-requires returns)
+    (tie.spec steps-for-requires forwards-by-requires signed-way-requires degrees-requires returns)

@@ -1,4 +1,4 @@
--- `short_way` meets its contract: the way forwards, or a circle less, as signed numbers that fit. Assumes nothing.
+-- `signed_way` meets its contract: the way forwards, or a circle less, as signed numbers that fit. Assumes nothing.
 use borrow.Author.Tests.{lt-ltb, le-ltb}
 use lib.IntN.{ℤ, pos, _-ℤ_}
 use mathlib.Core.Path.{ap, _∙_}
@@ -8,8 +8,8 @@ use Rattle.longitudes.specs.Longitudes.{circle}
 use Rattle.arms.specs.Parts.{signedWay}
 use Rattle.arms.proofs.ShortWay.{signed, fits-back}
 use borrow.Author.Needs.{needs}
-use Rattle.arms.proofs.short_way.Statement.{statement}
-use Rattle.arms.proofs.short_way.Tie as tie
+use Rattle.arms.proofs.signed_way.Statement.{statement}
+use Rattle.arms.proofs.signed_way.Tie as tie
 
 cast-result : tie.Need-cast-result
 cast-result c = search needs
@@ -31,6 +31,6 @@ returns-2 : tie.Need-returns-2
 unfolding signedWay
 returns-2 c = rw (le-ltb _ _ (c .if1 .left)) (toZ-ofZ w32 _ (fits-back _ (c .before .pre)) ∙ ap (λ (z : ℤ). z -ℤ pos circle) (signed _ (c .before .pre)))
 
-pub short-way-spec : {M : Type 1} → statement M
-short-way-spec =
+pub signed-way-spec : {M : Type 1} → statement M
+signed-way-spec =
     tie.close (tie.spec cast-result cast-result-2 cast-result-3 sub-result returns returns-2)
