@@ -76,6 +76,7 @@ def proved_module():
     """The module that rt compiles once it has proved the library. rt is given a folder of links to its kit, in which clang is a script that keeps the module and calls the real
     one. (The script has an empty environment, so all names in it are whole.)"""
     real, links, kept = kit(), OUT / "kit", OUT / "module.bc"
+    shutil.rmtree(links, ignore_errors=True)
     clang, script = real.joinpath(*CLANG), links.joinpath(*CLANG)
     for depth, name in enumerate(CLANG):
         link_all(real.joinpath(*CLANG[:depth]), links.joinpath(*CLANG[:depth]), name)
@@ -158,14 +159,29 @@ def build(clang, portable, inlined, name):
     return lines
 
 
+def report(names, lines):
+    """The report with the lines of these targets new, and those of the other archives as they were."""
+    path = OUT / "report"
+    kept = path.read_text(encoding="utf-8").splitlines() if path.is_file() else []
+    every = [line for line in kept if line.split(":")[0] not in names] + lines
+    order = list(TARGETS)
+    every.sort(key=lambda line: order.index(line.split(":")[0]))
+    path.write_text("".join(f"{line}\n" for line in every), encoding="utf-8")
+
+
 def build_all(names):
     unknown = [name for name in names if name not in TARGETS]
     if unknown:
         raise Failed(f"{unknown[0]} is no target; there are {', '.join(TARGETS)}, and all of them by the word all")
-    shutil.rmtree(OUT, ignore_errors=True)
-    OUT.mkdir(parents=True)
+    OUT.mkdir(parents=True, exist_ok=True)
+    for name in names:
+        shutil.rmtree(OUT / name, ignore_errors=True)
+    for made in ("module.bc", "module.ll", "portable.ll", "inlined.csv"):
+        (OUT / made).unlink(missing_ok=True)
+    report(names, [])
     clang = kit().joinpath(*CLANG)
     portable, inlined = portable_module(clang, proved_module())
     for name in names:
-        for line in build(clang, portable, inlined, name):
-            yield line
+        lines = build(clang, portable, inlined, name)
+        report([name], lines)
+        yield from lines

@@ -1,11 +1,12 @@
-/* Makes one row's calls of the Cortex-M4's archive, TIMES times, as a program with nothing else in it: controller/count counts its instructions under qemu. Built with
- * ROW, the name of a function below, and TIMES. */
+/* Makes one row's calls of the Cortex-M4's archive, TIMES times, as a program with nothing else in it: controller/count
+ * counts its instructions under qemu. Built with ROW, the name of a function below, and TIMES. */
 #include "grahalaghava.h"
 
-enum { DAYS = 401600, TRIED = 100, LIST = 1000 };
+enum { DAYS = 401600, TRIED = 100, BODIES = 9, SIGN_ENTRIES = 13194 };
 
-static uint8_t list[4 * LIST];
+static uint8_t list[4 * SIGN_ENTRIES];
 static volatile uint32_t sink;
+static volatile double degrees;
 
 void nothing(uint32_t day)
 {
@@ -38,6 +39,39 @@ void sheet(uint32_t day)
 void date(uint32_t day)
 {
     sink = graha_day_year(day) + graha_day_month(day) + graha_day_of_month(day);
+}
+
+void placed(uint32_t day)
+{
+    for (uint32_t body = 0; body < BODIES; body++) {
+        sink = graha_place_order(day, body);
+        degrees = graha_place_angle(day, body);
+    }
+}
+
+void followed(uint32_t day)
+{
+    for (uint32_t body = 0; body < BODIES; body++) {
+        sink = graha_follow_order(day, body);
+        degrees = graha_follow_rate(day, body);
+    }
+}
+
+void carried_out(uint32_t day)
+{
+    sink = day;
+    degrees = graha_carry_out_angle(1.5, 0.5, GRAHA_RUN, 0.25);
+    degrees = graha_carry_out_rate(1.5, 0.5, GRAHA_RUN, 0.25);
+}
+
+void sign_year(uint32_t day)
+{
+    sink = graha_sign_entries(day, day + 364, list, 4 * 13);
+}
+
+void sign_all(uint32_t day)
+{
+    sink = graha_sign_entries(0, DAYS - 1, list, sizeof list) + day;
 }
 
 void sparse_fits(uint32_t day)

@@ -1,10 +1,12 @@
 """What the host's module may hold, so that it means the same on every machine with the low byte first.
 
 The module is LLVM's text, and each of its lines must have one of the forms below: reckoning with integers of at most 64 bits and with 64-bit floats, memory
-by addresses and offsets in bytes, jumps, and calls by name of the module's own functions and of four intrinsics. No form makes a number of a
-pointer or a pointer of a number, compares pointers, holds assembly, calls through a pointer or names another object's symbol. Beyond the forms, no function may come to call
-itself, and no function may read as a number what it keeps as a pointer, or the other way round: a pointer has eight bytes of memory, of which a machine of 32 bits uses
-four."""
+by addresses and offsets in bytes, jumps, and calls by name of the module's own functions and of four intrinsics. No form
+makes a number of a pointer or a pointer of a number, compares pointers, holds assembly, calls through a pointer or names
+another object's symbol. Beyond the forms, no function may come to call itself, and what is kept as a pointer may not be
+read as a number, or the other way round: a pointer has eight bytes of memory, of which a machine of 32 bits uses four.
+That is followed from a function into those that it calls with an address, at offsets that are numbers; not through a
+pointer that was itself kept in memory, an offset that is reckoned, or a copy of bytes."""
 import re
 
 NUMBER = r"(?:i1|i8|i16|i32|i64|double)"
@@ -53,6 +55,8 @@ TARGET_ATTRIBUTE = re.compile(r' "(?:target-cpu|target-features|tune-cpu)"="[^"]
 ADDRESS = re.compile(rf"(%[\w.]+) = getelementptr{MARKS} i8, ptr (%[\w.]+), i64 ({VALUE})")
 LOADED = re.compile(rf"= load ({TYPE}), ptr ({VALUE}),")
 STORED = re.compile(rf"store ({TYPE}) {VALUE}, ptr ({VALUE}),")
+CALLED = re.compile(rf"call (?:void|{TYPE}) {NAME}\((?P<arguments>.*)\)")
+PARAMETER = re.compile(rf"({TYPE})(?: noundef| zeroext)* ({VALUE})(?:, |$)")
 WIDTHS = {"i1": 1, "i8": 1, "i16": 2, "i32": 4, "i64": 8, "double": 8, "ptr": 8}
 
 
@@ -72,26 +76,46 @@ def without_notes(line):
 
 
 class Function:
-    """A function's lines as they stand, and the names that it calls."""
+    """A function's parameters and lines as they stand, and the names that it calls."""
 
-    def __init__(self, name):
-        self.name, self.lines, self.calls = name, [], set()
+    def __init__(self, name, parameters):
+        self.name, self.parameters, self.lines, self.calls, self.kept = name, [word for _, word in parameters], [], set(), None
 
-    def mixed(self):
-        """An offset from one address at which the function keeps a pointer and a number, or None."""
-        addresses, kept = {}, {}
+    def keeps(self, found):
+        """What the function and those that it calls keep: of each address that it has and each byte behind it, whether
+        pointers (True) or numbers (False), with the names of the functions."""
+        if self.kept is not None:
+            return self.kept
+        addresses, self.kept = {}, {}
+
+        def keep(address, at, pointer, names):
+            base, offset = addresses.get(address, (address, 0))
+            if offset is not None:
+                self.kept.setdefault((base, offset + at), {}).setdefault(pointer, names)
+
         for line in self.lines:
-            moved, used = ADDRESS.search(line), LOADED.search(line) or STORED.search(line)
+            moved, used, called = ADDRESS.search(line), LOADED.search(line) or STORED.search(line), CALLED.search(line)
             if moved:
                 base, offset = addresses.get(moved[2], (moved[2], 0))
                 known = offset is not None and moved[3].isdigit()
                 addresses[moved[1]] = base, offset + int(moved[3]) if known else None
             elif used:
-                base, offset = addresses.get(used[2], (used[2], 0))
-                if offset is not None:
-                    for byte in range(offset, offset + WIDTHS[used[1]]):
-                        if kept.setdefault((base, byte), used[1] == "ptr") != (used[1] == "ptr"):
-                            return f"{base} and {byte} bytes"
+                for byte in range(WIDTHS[used[1]]):
+                    keep(used[2], byte, used[1] == "ptr", self.name)
+            elif called and called["name"] in found:
+                callee = found[called["name"]]
+                handed = [word for _, word in PARAMETER.findall(called["arguments"])]
+                for (base, at), kinds in callee.keeps(found).items():
+                    if base in callee.parameters:
+                        for pointer, names in kinds.items():
+                            keep(handed[callee.parameters.index(base)], at, pointer, names)
+        return self.kept
+
+    def mixed(self, found):
+        """A byte behind an address at which a pointer and a number are kept, and by which functions, or None."""
+        for (base, byte), kinds in self.keeps(found).items():
+            if len(kinds) > 1:
+                return f"{base} and {byte} bytes (the pointer in {kinds[True]}, the number in {kinds[False]})"
         return None
 
 
@@ -104,7 +128,7 @@ def functions(text):
         if not form:
             faults.append(f"line {number} has no form that is allowed: {line.strip()}")
         elif kept.startswith("define"):
-            inside = Function(form["name"])
+            inside = Function(form["name"], PARAMETER.findall(kept.split("(", 1)[1].split(")")[0]))
             found[inside.name] = inside
         elif kept == "}":
             inside = None
@@ -139,10 +163,12 @@ def faults(text):
     for function in found.values():
         wrong += [f"{function.name} calls {callee}, which is not the module's" for callee in sorted(function.calls)
                   if callee not in found and not INTRINSICS.fullmatch(callee)]
-        mixed = function.mixed()
-        wrong += [f"{function.name} keeps a pointer and a number at {mixed}"] if mixed else []
     circle = comes_back(found)
-    wrong += [f"{circle} comes to call itself"] if circle else []
+    if circle:
+        return [*wrong, f"{circle} comes to call itself"]
+    for function in found.values():
+        mixed = function.mixed(found)
+        wrong += [f"{function.name} keeps a pointer and a number at {mixed}"] if mixed else []
     wrong += [] if found else ["it has no function"]
     return wrong
 
