@@ -1,13 +1,10 @@
--- The lines of a month's sheet by refusal and index; that the 31 of them are all that is printed; and that what an input asks for fits, line by line.
--- Assumes nothing.
-use mathlib.Core.Bool.{Bool, true, false}
-use mathlib.Core.List.{List, [], _∷_, _++_, append-assoc, append-nil}
+-- The lines of a month's sheet by refusal and index, and how many there are; and that a record's line is put together from its parts. Assumes nothing.
+use mathlib.Core.List.{List, [], _∷_, _++_, map, append-assoc}
 use mathlib.Core.Path.{_≡_, refl, sym, ap, _∙_, subst}
 use Prim.Native.Nat.{ℕ, zero, suc, _-_, _≤_, _<_}
 use native.Mathlib.Omega.{arith}
-use lib.Dec.{eqb}
-use lib.ListN.{length, getD}
-use borrow.Author.Tests.{eq-eqb, ne-eqb, lt-ltb, le-ltb}
+use lib.ListN.{length, getD, length-map}
+use borrow.Author.Tests.{eq-eqb, ne-eqb}
 use Rattle.days.specs.declared.NumberAnswer.{NumberAnswer}
 use Rattle.days.specs.Refusals.{accepted}
 use Rattle.panchanga.specs.TrueLongitudes.{firstEdition}
@@ -16,10 +13,13 @@ use Rattle.records.specs.declared.Month.{Month}
 use Rattle.records.specs.Records.{noMonth, monthOf}
 use Rattle.text.specs.declared.Line.{Line}
 use Rattle.text.specs.Decimal.{digitsOf}
-use Rattle.text.specs.Lines.{newline, withByte, withBytes, spaced, refusalLine}
+use Rattle.text.specs.Lines.{newline, emptyLine, withBytes, ended, spaced, Holds, refusalLine, wholeLine}
 use Rattle.text.specs.Inputs.{dayInput}
-use Rattle.text.proofs.Lines.{with-byte-is, with-bytes-append}
-use Rattle.month_sheet.specs.MonthSheets.{monthHeading, trueColumns, recordLine, recordLines, behind, monthRead, monthSheet, lineOf}
+use Rattle.text.specs.Sheets.{lineAt}
+use Rattle.text.proofs.Holding.{ended-holds}
+use Rattle.text.proofs.Lines.{with-bytes-append}
+use Rattle.text.proofs.Sheets.{line-first, line-next, line-behind}
+use Rattle.month_sheet.specs.MonthSheets.{monthHeading, trueColumns, recordBytes, recordLine, monthLines, monthRead}
 
 module _ (s : List ℕ) (read : NumberAnswer) (e : read ≡ dayInput s) where
   pub input-refused : (read .refusal ≡ accepted → ⊥) → monthRead s ≡ noMonth (read .refusal)
@@ -30,70 +30,78 @@ module _ (s : List ℕ) (read : NumberAnswer) (e : read ≡ dayInput s) where
   unfolding monthRead
   input-accepted r = rw (sym e, eq-eqb (read .refusal) accepted r)
 
+-- ---- the lines of a month
+refused-lines : (m : Month) → (m .refusal ≡ accepted → ⊥) → monthLines m ≡ refusalLine (m .refusal) ∷ []
+unfolding monthLines
+refused-lines m r = rw (ne-eqb (m .refusal) accepted r)
+
+accepted-lines : (m : Month) → m .refusal ≡ accepted → monthLines m ≡ monthHeading ∷ map recordLine (m .records)
+unfolding monthLines
+accepted-lines m r = rw (eq-eqb (m .refusal) accepted r)
+
+-- what a read behind the last record would give; none is made there
+abbrev pub behind : DayRecord
+behind = record { day = 0; weekday = 0; longitudes = []; sun = 0; moon = 0; tithi = 0; nakshatra = 0; yoga = 0; karana = 0 }
+
+mapped-at : (rs : List DayRecord) (k : ℕ) → k < length rs → lineAt (map recordLine rs) k ≡ recordLine (getD rs k behind)
+mapped-at [] k h = absurd (omega arith)
+mapped-at (r ∷ rs) zero h = line-first _ _
+mapped-at (r ∷ rs) (suc k) h = line-next _ _ k ∙ mapped-at rs k (omega arith)
+
+-- what owning a month tells of its records: their array's length, of its elements as they are laid out
+pub unmapped : (X Y : Type 0) (f : X → Y) (l : List X) (n : ℕ) → length (map f l) ≡ n → length l ≡ n
+unmapped X Y f l n e = sym (length-map l f) ∙ e
+
+-- ---- how many there are
+pub one-refused : (m : Month) → (m .refusal ≡ accepted → ⊥) → 1 ≡ length (monthLines m)
+one-refused m r = rw (refused-lines m r)
+
+pub all-lines : (m : Month) → m .refusal ≡ accepted → length (m .records) ≡ 30 → 31 ≡ length (monthLines m)
+all-lines m r long = rw (accepted-lines m r) (omega (arith, length-map (m .records) recordLine))
+
 -- ---- which line is meant
-pub first-refused : (m : Month) (k : ℕ) → (m .refusal ≡ accepted → ⊥) → k ≡ 0 → lineOf m k ≡ refusalLine (m .refusal)
-unfolding lineOf
-first-refused m k r h = rw (h, ne-eqb (m .refusal) accepted r)
+module _ (m : Month) (k : ℕ) where
+  pub first-refused : (m .refusal ≡ accepted → ⊥) → k ≡ 0 → lineAt (monthLines m) k ≡ refusalLine (m .refusal)
+  first-refused r h = rw (refused-lines m r, h) (line-first _ _)
 
-pub rest-refused : (m : Month) (k : ℕ) → (m .refusal ≡ accepted → ⊥) → (k ≡ 0 → ⊥) → lineOf m k ≡ []
-unfolding lineOf
-rest-refused m zero r h = absurd (h refl)
-rest-refused m (suc k) r h = rw (ne-eqb (m .refusal) accepted r)
+  pub rest-refused : (m .refusal ≡ accepted → ⊥) → (k ≡ 0 → ⊥) → lineAt (monthLines m) k ≡ []
+  rest-refused r h = rw (refused-lines m r) (line-behind _ k (omega arith))
 
-pub first-is-heading : (m : Month) (k : ℕ) → m .refusal ≡ accepted → k ≡ 0 → lineOf m k ≡ monthHeading
-unfolding lineOf
-first-is-heading m k r h = rw (h, eq-eqb (m .refusal) accepted r)
+  pub first-is-heading : m .refusal ≡ accepted → k ≡ 0 → lineAt (monthLines m) k ≡ monthHeading
+  first-is-heading r h = rw (accepted-lines m r, h) (line-first _ _)
 
-pub line-of-record : (m : Month) (k : ℕ) → m .refusal ≡ accepted → (k ≡ 0 → ⊥) → k < 31 → lineOf m k ≡ recordLine (getD (m .records) (k - 1) behind)
-unfolding lineOf
-line-of-record m zero r h l = absurd (h refl)
-line-of-record m (suc k) r h l =
+  pub none-behind : m .refusal ≡ accepted → length (m .records) ≡ 30 → 31 ≤ k → lineAt (monthLines m) k ≡ []
+  none-behind r long l = line-behind (monthLines m) k (omega (arith, all-lines m r long))
+
+pub line-of-record :
+    (m : Month) (k : ℕ) →
+    m .refusal ≡ accepted →
+    length (m .records) ≡ 30 →
+    (k ≡ 0 → ⊥) →
+    k < 31 →
+    lineAt (monthLines m) k ≡ recordLine (getD (m .records) (k - 1) behind)
+line-of-record m zero r long h l = absurd (h refl)
+line-of-record m (suc k) r long h l =
     let back : suc k - 1 ≡ k = omega arith in
-    rw (eq-eqb (m .refusal) accepted r, lt-ltb k 30 (omega arith), back)
-
-pub none-behind : (m : Month) (k : ℕ) → m .refusal ≡ accepted → 31 ≤ k → lineOf m k ≡ []
-unfolding lineOf
-none-behind m zero r l = absurd (omega arith)
-none-behind m (suc k) r l = rw (eq-eqb (m .refusal) accepted r, le-ltb k 30 (omega arith))
+    rw (accepted-lines m r, back) (line-next _ _ k ∙ mapped-at (m .records) k (omega arith))
 
 -- ---- a record's line is put together from its parts
-pub record-line-made :
+pub record-line-held :
     (l : Line) (r : DayRecord) →
-    withByte (withBytes (withBytes (withBytes (withBytes l (digitsOf (r .day))) (spaced (r .weekday ∷ []))) (spaced (r .longitudes))) (spaced (trueColumns r))) newline ≡ withBytes l (recordLine r)
-unfolding recordLine
-record-line-made l r = together l (digitsOf (r .day)) (spaced (r .weekday ∷ [])) (spaced (r .longitudes)) (spaced (trueColumns r))
+    l ≡ withBytes (withBytes (withBytes (withBytes emptyLine (digitsOf (r .day))) (spaced (r .weekday ∷ []))) (spaced (r .longitudes))) (spaced (trueColumns r)) →
+    Holds (ended l) (recordLine r)
+unfolding recordLine recordBytes
+record-line-held l r e = of-parts (digitsOf (r .day)) (spaced (r .weekday ∷ [])) (spaced (r .longitudes)) (spaced (trueColumns r)) e
   where
-    together : (l : Line) (a b c d : List ℕ) → withByte (withBytes (withBytes (withBytes (withBytes l a) b) c) d) newline ≡ withBytes l (a ++ (b ++ (c ++ (d ++ (newline ∷ [])))))
-    together l a b c d = simp (with-byte-is, with-bytes-append, append-assoc)
+    together : (a b c d : List ℕ) → withBytes (withBytes (withBytes (withBytes emptyLine a) b) c) d ≡ withBytes emptyLine (a ++ (b ++ (c ++ d)))
+    together a b c d = simp (with-bytes-append, append-assoc)
 
--- ---- the lines are all that is printed
--- m lines from line k on
-unfoldable pub linesFrom : Month → ℕ → ℕ → List ℕ
-linesFrom m k zero = []
-linesFrom m k (suc n) = lineOf m k ++ linesFrom m (suc k) n
+    with-newline : (a b c d : List ℕ) → (a ++ (b ++ (c ++ d))) ++ (newline ∷ []) ≡ a ++ (b ++ (c ++ (d ++ (newline ∷ []))))
+    with-newline a b c d = simp append-assoc
 
--- the lines of n records from record k on
-recordsFrom : List DayRecord → ℕ → ℕ → List ℕ
-recordsFrom rs k zero = []
-recordsFrom rs k (suc n) = recordLine (getD rs k behind) ++ recordsFrom rs (suc k) n
-
-without-first : (r : DayRecord) (rs : List DayRecord) (k n : ℕ) → recordsFrom (r ∷ rs) (suc k) n ≡ recordsFrom rs k n
-unfolding recordsFrom
-without-first r rs k zero = refl
-without-first r rs k (suc n) = ap (λ (bs : List ℕ). recordLine (getD rs k behind) ++ bs) (without-first r rs (suc k) n)
-
-all-records : (rs : List DayRecord) → recordsFrom rs 0 (length rs) ≡ recordLines rs
-unfolding recordsFrom recordLines
-all-records [] = refl
-all-records (r ∷ rs) = ap (λ (bs : List ℕ). recordLine r ++ bs) (without-first r rs 0 (length rs) ∙ all-records rs)
-
-pub lines-together : (m : Month) → length (m .records) ≡ 30 → linesFrom m 0 31 ≡ monthSheet m
-unfolding linesFrom lineOf monthSheet recordsFrom
-lines-together m long = go (eqb (m .refusal) accepted) refl
-  where
-    thirty : recordsFrom (m .records) 0 30 ≡ recordLines (m .records)
-    thirty = subst (λ (n : ℕ). recordsFrom (m .records) 0 n ≡ recordLines (m .records)) long (all-records (m .records))
-
-    go : (t : Bool) → eqb (m .refusal) accepted ≡ t → linesFrom m 0 31 ≡ monthSheet m
-    go true e = rw e (ap (λ (bs : List ℕ). monthHeading ++ bs) thirty)
-    go false e = rw e (append-nil _)
+    of-parts :
+        (a b c d : List ℕ) →
+        l ≡ withBytes (withBytes (withBytes (withBytes emptyLine a) b) c) d →
+        Holds (ended l) (wholeLine (a ++ (b ++ (c ++ (d ++ (newline ∷ []))))))
+    of-parts a b c d h =
+        subst (λ (bs : List ℕ). Holds (ended l) (wholeLine bs)) (with-newline a b c d) (ended-holds l (a ++ (b ++ (c ++ d))) (h ∙ together a b c d))

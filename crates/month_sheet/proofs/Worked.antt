@@ -9,10 +9,11 @@ use Rattle.panchanga.specs.OnDays.{trueSunAt, trueMoonAt, tithiAt, nakshatraAt,
 use Rattle.records.specs.Records.{recordOn, monthOf}
 use Rattle.text.specs.Ascii.{ascii}
 use Rattle.text.specs.Decimal.{isDigit, allDigits, withDigit, valueOf, isNumber, numberRead, digitsWithin, digitsOf}
-use Rattle.text.specs.Lines.{spaced, refusalLine}
+use Rattle.text.specs.Lines.{spaced, refusalLine, wholeLine}
 use Rattle.text.specs.Inputs.{isLine, inputRead, dayInput}
+use Rattle.text.specs.Sheets.{joined}
 use Rattle.integers.specs.Integers.{floorOver, reduced}
-use Rattle.month_sheet.specs.MonthSheets.{recordLine, monthRead, monthSheet}
+use Rattle.month_sheet.specs.MonthSheets.{recordBytes, recordLine, monthLines, monthRead, monthPrinted}
 
 pub lines :
     recordLine (recordOn firstEdition 33649)
@@ -21,16 +22,16 @@ pub lines :
     ≡ ascii "33649 0 123220 720622 1133683 159662 1079713 170089 461716 344495 1190205 128648 737042 14 15 18 7\n"
     ∷ ascii "401599 2 600219 1148216 908521 1239589 551968 581103 367898 527029 127124 592376 1131624 12 23 8 3\n"
     ∷ []
-unfolding recordLine recordOn spaced digitsOf digitsWithin longitudesAt trueSunAt trueMoonAt tithiAt nakshatraAt yogaAt karanaAt karanaAfter trueMoon trueLongitude corrected signed equation bhuja differenceOf longitudeAt meanLongitude table floorOver reduced
+unfolding recordLine recordBytes wholeLine recordOn spaced digitsOf digitsWithin longitudesAt trueSunAt trueMoonAt tithiAt nakshatraAt yogaAt karanaAt karanaAfter trueMoon trueLongitude corrected signed equation bhuja differenceOf longitudeAt meanLongitude table floorOver reduced
 lines = refl
 
 -- nothing, no newline, no such day, and a month that ends behind the last day
 pub refused :
-    monthSheet (monthRead (ascii ""))
-    ∷ monthSheet (monthRead (ascii "7"))
-    ∷ monthSheet (monthRead (ascii "401600\n"))
-    ∷ monthSheet (monthRead (ascii "401571\n"))
+    monthPrinted (ascii "")
+    ∷ monthPrinted (ascii "7")
+    ∷ monthPrinted (ascii "401600\n")
+    ∷ monthPrinted (ascii "401571\n")
     ∷ []
     ≡ ascii "refused 3\n" ∷ ascii "refused 3\n" ∷ ascii "refused 2\n" ∷ ascii "refused 2\n" ∷ []
-unfolding monthSheet monthRead monthOf isEdition refusalLine dayInput inputRead isLine numberRead isNumber allDigits isDigit valueOf withDigit digitsOf digitsWithin
+unfolding joined monthLines monthRead monthOf isEdition refusalLine dayInput inputRead isLine numberRead isNumber allDigits isDigit valueOf withDigit digitsOf digitsWithin
 refused = refl

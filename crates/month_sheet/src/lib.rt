@@ -5,8 +5,10 @@ use records::MONTH;
 use records::Month;
 use text::Line;
 ghost use mathlib.Core.Path.{_≡_};
-ghost use Rattle.text.specs.Lines.{emptyLine, withBytes};
-ghost use Rattle.month_sheet.specs.MonthSheets.{monthHeading, recordLine, lineOf, monthRead};
+ghost use lib.ListN.{length};
+ghost use Rattle.text.specs.Lines.{Holds};
+ghost use Rattle.text.specs.Sheets.{lineAt};
+ghost use Rattle.month_sheet.specs.MonthSheets.{monthHeading, recordLine, monthLines, monthRead};
 
 // The heading, and a line for each record.
 pub const LINES: usize = 1 + MONTH;
@@ -22,16 +24,17 @@ pub fn read_month(input: &[u8]) -> Month
     records::month_from(panchanga::FIRST_EDITION, read.number)
 }
 
-fn heading() -> Line
-    ensures { λ r. ⌜ r ≡ withBytes emptyLine monthHeading ⌝ }
+pub fn heading() -> Line
+    ensures { λ r. ⌜ Holds r monthHeading ⌝ }
 {
     Line::empty().text(
         b"day weekday sun moon apogee node mars mercury jupiter venus saturn true_sun true_moon tithi nakshatra yoga karana\n",
     )
 }
 
-fn record_line(filled: DayRecord) -> Line
-    ensures { λ r. ⌜ r ≡ withBytes emptyLine (recordLine filled) ⌝ }
+// A record's numbers in the heading's order. One that is no day's may have too many digits for a line, and is refused.
+pub fn record_line(filled: DayRecord) -> Line
+    ensures { λ r. ⌜ Holds r (recordLine filled) ⌝ }
 {
     let means = filled.longitudes;
     let elements = [
@@ -47,12 +50,22 @@ fn record_line(filled: DayRecord) -> Line
         .numbers(&[filled.weekday])
         .numbers(&means)
         .numbers(&elements)
-        .byte(b'\n')
+        .ended()
+}
+
+// How many lines are printed for a month; a refusal is one.
+pub fn line_count(month: Month) -> usize
+    ensures { λ r. ⌜ r ≡ length (monthLines month) ⌝ }
+{
+    if month.refusal != refusal::NONE {
+        return 1;
+    }
+    LINES
 }
 
 // One of the lines that are printed for a month, counted from 0; behind the last one nothing.
 pub fn line(month: Month, index: usize) -> Line
-    ensures { λ r. ⌜ r ≡ withBytes emptyLine (lineOf month index) ⌝ }
+    ensures { λ r. ⌜ Holds r (lineAt (monthLines month) index) ⌝ }
 {
     if month.refusal != refusal::NONE {
         if index == 0 {

@@ -1,4 +1,4 @@
-// Lines written to standard output and to standard error.
+// Lines written to standard output and to standard error, and the lines of a sheet, many at once.
 use libc::STDERR_FILENO;
 use libc::STDOUT_FILENO;
 use text::Line;
@@ -6,7 +6,13 @@ ghost use mathlib.Core.Path.{_≡_};
 ghost use Rattle.text.specs.Lines.{contents, Holds};
 ghost use Rattle.output.specs.Output.{notWritten};
 
-// The only way to write here. By what it requires the bytes are the line's contents.
+// How far a sheet is printed: how many of its lines, and whether no write failed.
+pub struct Written {
+    pub lines: usize,
+    pub whole: bool,
+}
+
+// The only way to write a line. By what it requires the bytes are the line's contents.
 fn write_contents(fd: i32, line: Line, bytes: &[u8]) -> bool
     requires { ⌜ now bytes ≡ contents line ⌝ }
 {
@@ -41,11 +47,22 @@ pub fn say(line: Line) {
     write(STDERR_FILENO, line);
 }
 
+// Says of a write to standard output that it failed, and hands back whether it did not.
+fn said(whole: bool) -> bool
+    ensures { λ r. ⌜ r ≡ whole ⌝ }
+{
+    if !whole {
+        say(not_written());
+    }
+    whole
+}
+
 // To standard output, and whether all of it was written; a write that fails is said.
 pub fn print(line: Line) -> bool {
-    if write(STDOUT_FILENO, line) {
-        return true;
-    }
-    say(not_written());
-    false
+    said(write(STDOUT_FILENO, line))
+}
+
+// The same for bytes of many lines.
+pub fn print_bytes(bytes: &[u8]) -> bool {
+    said(io::write_all(STDOUT_FILENO, bytes))
 }

@@ -1,6 +1,6 @@
 -- What is printed is put together from its parts and fits a line: the longest name has seven bytes, and each number few digits. Assumes nothing.
 use mathlib.Core.List.{List, [], _∷_, _++_, append-assoc}
-use mathlib.Core.Path.{_≡_, refl}
+use mathlib.Core.Path.{_≡_}
 use Prim.Native.Nat.{ℕ, _/_, _%_, _≤_, _<_}
 use native.Mathlib.Omega.{arith}
 use lib.ListN.{length, length-append}
@@ -10,21 +10,17 @@ use Rattle.text.proofs.Lines.{with-byte-is, with-bytes-append}
 use Rattle.text.proofs.Printing.{digits-length}
 use Rattle.words.specs.Names.{bodyNames}
 use Rattle.words.specs.Words.{nameAt}
-use Rattle.words.proofs.Names.{noLonger, name-length}
+use Rattle.words.proofs.Names.{body-name-short}
 use Rattle.plate.specs.Plates.{plateHeading, sexagesimal, bodyLine}
 
 pub heading-fits : length plateHeading ≤ lineCapacity
 unfolding plateHeading
 heading-fits = omega arith
 
-name-short : (b : ℕ) → length (nameAt bodyNames b) ≤ 7
-unfolding noLonger
-name-short b = name-length 7 bodyNames refl b
-
 pub body-line-fits : (b seconds thirds : ℕ) → seconds < 1296000 → thirds < 60 → length (bodyLine b seconds thirds) ≤ lineCapacity
 unfolding bodyLine spaced
 body-line-fits b seconds thirds h k =
-    let name = name-short b in
+    let name = body-name-short b in
     let degrees = digits-length 2 (seconds / 3600) (omega arith) in
     let minutes = digits-length 1 (seconds / 60 % 60) (omega arith) in
     let rest = digits-length 1 (seconds % 60) (omega arith) in

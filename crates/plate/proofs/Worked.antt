@@ -8,15 +8,16 @@ use Rattle.text.specs.Ascii.{ascii}
 use Rattle.text.specs.Decimal.{isDigit, allDigits, withDigit, valueOf, isNumber, numberRead, digitsWithin, digitsOf}
 use Rattle.text.specs.Lines.{spaced, refusalLine}
 use Rattle.text.specs.Inputs.{isLine, inputRead, dayInput}
+use Rattle.text.specs.Sheets.{joined}
 use Rattle.words.specs.Words.{nameAt}
-use Rattle.plate.specs.Plates.{plateHeading, bodyLine, bodyLines, plateOf}
+use Rattle.plate.specs.Plates.{plateHeading, bodyLine, bodyLines, plateLines, platePrinted}
 
 pub epoch :
-    plateOf (ascii "0\n")
+    platePrinted (ascii "0\n")
     ≡ ascii "body degrees minutes seconds thirds\nsun 349 41 0 0\nmoon 349 6 0 0\napogee 167 33 0 0\nnode 27 38 0 0\nmars 307 8 0 0\nmercury 269 33 0 0\njupiter 212 16 0 0\nvenus 230 9 0 0\nsaturn 285 21 0 0\n"
-unfolding plateOf plateHeading bodyLines bodyLine spaced nameAt dayInput inputRead isLine numberRead isNumber allDigits isDigit valueOf withDigit digitsOf digitsWithin longitudeAt thirdsAt thirds remainderOf meanLongitude table floorOver reduced
+unfolding joined plateLines plateHeading bodyLines bodyLine spaced nameAt dayInput inputRead isLine numberRead isNumber allDigits isDigit valueOf withDigit digitsOf digitsWithin longitudeAt thirdsAt thirds remainderOf meanLongitude table floorOver reduced
 epoch = refl
 
-pub refused : plateOf (ascii "") ∷ plateOf (ascii "7") ∷ plateOf (ascii "401600\n") ∷ [] ≡ ascii "refused 3\n" ∷ ascii "refused 3\n" ∷ ascii "refused 2\n" ∷ []
-unfolding plateOf refusalLine dayInput inputRead isLine numberRead isNumber allDigits isDigit valueOf withDigit digitsOf digitsWithin
+pub refused : platePrinted (ascii "") ∷ platePrinted (ascii "7") ∷ platePrinted (ascii "401600\n") ∷ [] ≡ ascii "refused 3\n" ∷ ascii "refused 3\n" ∷ ascii "refused 2\n" ∷ []
+unfolding joined plateLines refusalLine dayInput inputRead isLine numberRead isNumber allDigits isDigit valueOf withDigit digitsOf digitsWithin
 refused = refl

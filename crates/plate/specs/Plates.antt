@@ -3,7 +3,7 @@
 use mathlib.Core.Bool.{cond}
 use mathlib.Core.List.{List, [], _∷_, _++_}
 use Prim.Native.Nat.{ℕ, zero, suc, _/_, _%_}
-use lib.Dec.{ltb, eqb}
+use lib.Dec.{eqb}
 use Rattle.days.specs.declared.NumberAnswer.{NumberAnswer}
 use Rattle.days.specs.Refusals.{accepted}
 use Rattle.days.specs.Days.{pairAt}
@@ -11,6 +11,7 @@ use Rattle.longitudes.specs.Longitudes.{longitudeAt, thirdsAt}
 use Rattle.text.specs.Ascii.{ascii}
 use Rattle.text.specs.Lines.{spaced, refusalLine}
 use Rattle.text.specs.Inputs.{dayInput}
+use Rattle.text.specs.Sheets.{joined}
 use Rattle.words.specs.Names.{bodyNames}
 use Rattle.words.specs.Words.{nameAt}
 
@@ -29,23 +30,16 @@ abbrev pub bodyLineOn : ℕ → ℕ → List ℕ
 bodyLineOn n b = bodyLine b (longitudeAt b (pairAt n)) (thirdsAt b (pairAt n))
 
 -- the lines of m bodies on day n, from body b on
-unfoldable pub bodyLines : ℕ → ℕ → ℕ → List ℕ
+unfoldable pub bodyLines : ℕ → ℕ → ℕ → List (List ℕ)
 bodyLines n b zero = []
-bodyLines n b (suc m) = bodyLineOn n b ++ bodyLines n (suc b) m
+bodyLines n b (suc m) = bodyLineOn n b ∷ bodyLines n (suc b) m
 
--- ALL THAT IS PRINTED for an input: the heading and the nine bodies in paper 01's order, or the refusal
-unfoldable pub plateOf : List ℕ → List ℕ
-plateOf bs =
+-- the lines that are printed for an input: the heading and the nine bodies in paper 01's order, or the refusal
+unfoldable pub plateLines : List ℕ → List (List ℕ)
+plateLines bs =
     let read : NumberAnswer = dayInput bs in
-    cond (eqb (read .refusal) accepted) (plateHeading ++ bodyLines (read .number) 0 9) (refusalLine (read .refusal))
+    cond (eqb (read .refusal) accepted) (plateHeading ∷ bodyLines (read .number) 0 9) (refusalLine (read .refusal) ∷ [])
 
--- line k of day n's plate, counted from 0; behind the last one nothing
-unfoldable pub plateLine : ℕ → ℕ → List ℕ
-plateLine n zero = plateHeading
-plateLine n (suc b) = cond (ltb b 9) (bodyLineOn n b) []
-
--- line k of what is printed; a refusal is one line. The law `lines-together`: ten of them are all that is printed
-unfoldable pub lineFor : List ℕ → ℕ → List ℕ
-lineFor bs k =
-    let read : NumberAnswer = dayInput bs in
-    cond (eqb (read .refusal) accepted) (plateLine (read .number) k) (cond (eqb k 0) (refusalLine (read .refusal)) [])
+-- ALL THAT IS PRINTED for an input
+abbrev pub platePrinted : List ℕ → List ℕ
+platePrinted input = joined (plateLines input)

@@ -2,9 +2,12 @@
 use days::Day;
 use days::refusal;
 use text::Line;
+ghost use mathlib.Core.Path.{_≡_};
 ghost use Prim.Native.Nat.{_<_};
+ghost use lib.ListN.{length};
 ghost use Rattle.text.specs.Lines.{Holds};
-ghost use Rattle.plate.specs.Plates.{plateHeading, bodyLine, lineFor};
+ghost use Rattle.text.specs.Sheets.{lineAt};
+ghost use Rattle.plate.specs.Plates.{plateHeading, bodyLine, plateLines};
 
 // The heading, and a line for each body.
 pub const LINES: usize = 1 + longitudes::BODIES;
@@ -25,9 +28,20 @@ fn body_line(body: usize, seconds: u32, thirds: u32) -> Line
     Line::empty().text(name).numbers(&columns).byte(b'\n')
 }
 
+// How many lines are printed for an input; a refusal is one.
+pub fn line_count(input: &[u8]) -> usize
+    ensures { λ r. ⌜ r ≡ length (plateLines (now (input .entry))) ⌝ }
+{
+    let read = text::read_day(input);
+    if read.refusal != refusal::NONE {
+        return 1;
+    }
+    LINES
+}
+
 // One of the lines that are printed for an input, counted from 0; behind the last one nothing.
 pub fn line(input: &[u8], index: usize) -> Line
-    ensures { λ r. ⌜ Holds r (lineFor (now (input .entry)) index) ⌝ }
+    ensures { λ r. ⌜ Holds r (lineAt (plateLines (now (input .entry))) index) ⌝ }
 {
     let read = text::read_day(input);
     if read.refusal != refusal::NONE {

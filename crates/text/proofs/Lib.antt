@@ -7,4 +7,5 @@ pub mod Lines
 pub mod Lending
 pub mod Putting
 pub mod Holding
+pub mod Sheets
 pub mod Worked

@@ -1,14 +1,14 @@
 -- Laws of putting bytes on a line: one after another is all at once, the line's room stays as it is, and what fits is all
 -- there. Assumes nothing.
 use Prim.Native.Nat.{ℕ, _+_, _≤_, _<_}
-use mathlib.Core.Path.{_≡_, refl, sym, _∙_}
+use mathlib.Core.Path.{_≡_, refl, ap, sym, _∙_}
 use mathlib.Core.Bool.{Bool, true, false}
 use mathlib.Core.List.{List, [], _∷_, _++_, foldl-append, append-assoc, append-nil}
 use native.Mathlib.Omega.{arith}
 use native.Mathlib.Numerals.{add-one}
 use lib.Dec.{ltb}
-use lib.ListN.{length, set, length-set}
-use lib.Seq.{take-suc-set}
+use lib.ListN.{length, take, drop, set, length-set, take-append-drop}
+use lib.Seq.{length-take-le, take-suc-set}
 use borrow.Author.Tests.{ltb-true, ltb-false, lt-ltb, le-ltb}
 use Rattle.text.specs.declared.Line.{Line}
 use Rattle.text.specs.Lines.{lineCapacity, emptyLine, contents, withByte, withBytes}
@@ -99,3 +99,16 @@ pub put-all :
     (contents (withBytes emptyLine bs) ≡ bs) × (withBytes emptyLine bs .len ≡ length bs)
 unfolding contents
 put-all bs h = let p = put-bytes bs emptyLine refl (omega arith) in (p .whole, omega arith)
+
+-- a full line stays as it was, whatever is put
+pub full-stays : (bs : List ℕ) (l : Line) → lineCapacity ≤ l .len → withBytes l bs ≡ l
+full-stays [] l h = with-bytes-none l
+full-stays (b ∷ bs) l h = with-bytes-more l b bs ∙ rw (with-byte-full l b h) (full-stays bs l h)
+
+-- as many bytes as a line has room for fill it
+pub put-full : (bs : List ℕ) → lineCapacity ≤ length bs → withBytes emptyLine bs .len ≡ lineCapacity
+put-full bs h =
+    let front = put-all (take lineCapacity bs) (omega (arith, length-take-le lineCapacity bs h)) .1 ∙ length-take-le lineCapacity bs h in
+    let filled = full-stays (drop lineCapacity bs) (withBytes emptyLine (take lineCapacity bs)) (omega arith) in
+    let split = with-bytes-append emptyLine (take lineCapacity bs) (drop lineCapacity bs) ∙ ap (withBytes emptyLine) (take-append-drop lineCapacity bs) in
+    ap (λ (l : Line). l .len) (sym split ∙ filled) ∙ front

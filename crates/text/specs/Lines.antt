@@ -4,8 +4,9 @@ use Prim.Native.Char.{code}
 use mathlib.Core.Bool.{cond}
 use mathlib.Core.Path.{_≡_}
 use mathlib.Core.List.{List, [], _∷_, _++_, foldl}
-use lib.Dec.{ltb}
-use lib.ListN.{take, set, replicate}
+use lib.Dec.{ltb, leb}
+use lib.ListN.{length, take, set, replicate}
+use Rattle.days.specs.Refusals.{listTooShort}
 use Rattle.text.specs.declared.Line.{Line}
 use Rattle.text.specs.Ascii.{ascii}
 use Rattle.text.specs.Decimal.{digitsOf}
@@ -48,3 +49,11 @@ pub record Holds (l : Line) (bs : List ℕ) : Type 0 where
 -- `refused` and the refusal's number on one line
 unfoldable pub refusalLine : ℕ → List ℕ
 refusalLine refusal = ascii "refused " ++ (digitsOf refusal ++ ascii "\n")
+
+-- a line's bytes where they fit it whole, else the refusal for want of room
+unfoldable pub wholeLine : List ℕ → List ℕ
+wholeLine bs = cond (leb (length bs) lineCapacity) bs (refusalLine listTooShort)
+
+-- the line with its newline, which comes last; where there is no room for it, that refusal
+unfoldable pub ended : Line → Line
+ended l = cond (ltb (l .len) lineCapacity) (withByte l newline) (withBytes emptyLine (refusalLine listTooShort))

@@ -3,14 +3,18 @@ use days::Day;
 use days::NumberAnswer;
 use days::refusal;
 ghost use mathlib.Core.Path.{_≡_};
-ghost use Prim.Native.Nat.{_≤_};
+ghost use Prim.Native.Nat.{_≤_, min};
 ghost use lib.ListN.{length, drop};
 ghost use Rattle.text.specs.Decimal.{numberRead, digitsOf};
 ghost use Rattle.text.specs.Inputs.{inputRead, dayInput};
-ghost use Rattle.text.specs.Lines.{emptyLine, withByte, withBytes, spaced, Holds, refusalLine};
+ghost use Rattle.text.specs.Lines.{emptyLine, contents, withByte, withBytes, ended, spaced, Holds, refusalLine};
+ghost use Rattle.text.specs.Sheets.{fitsAt, putAt};
 
 // A text that a program reads whole has fewer bytes: one that fills a buffer of so many is longer, or could not be read to its end.
 pub const TOO_LONG: usize = 524288;
+
+// The bytes of a sheet that are written at once, of whole lines.
+pub const PIECE: usize = 8192;
 
 // The most digits of a day's number.
 const DAY_DIGITS: usize = 6;
@@ -84,6 +88,12 @@ pub fn read_day(input: &[u8]) -> NumberAnswer
     NumberAnswer::accepted(read.number)
 }
 
+fn at_most(n: usize, most: usize) -> usize
+    ensures { λ r. ⌜ r ≡ min n most ⌝ }
+{
+    if n < most { n } else { most }
+}
+
 // The digits are found from the last, so they are written backwards.
 fn decimal(n: u64) -> Digits
     ensures { λ r. ⌜ (length (r .bytes) ≡ 20) × (r .from ≤ 19) × (drop (r .from) (r .bytes) ≡ digitsOf n) ⌝ }
@@ -135,6 +145,37 @@ impl Line {
             i += 1;
         }
         Line { bytes, len }
+    }
+
+    // The line with its newline; where not all of it fits, the refusal for want of room in its place.
+    pub fn ended(self) -> Line
+        ensures { λ r. ⌜ r ≡ ended self ⌝ }
+    {
+        if self.len < Line::CAPACITY {
+            return self.byte(b'\n');
+        }
+        refusal_line(refusal::LIST_TOO_SHORT)
+    }
+
+    // Puts the line's contents into a buffer from byte `at` on, where all of them fit, and says whether they do.
+    pub fn put(self, buffer: &mut [u8], at: usize) -> bool
+        ensures { λ r. ⌜ r ≡ fitsAt (now (buffer .entry)) at (contents self) ⌝ }
+        ensures { λ _. ⌜ now (buffer .exit) ≡ putAt (now (buffer .entry)) at (contents self) ⌝ }
+    {
+        let bytes = self.bytes;
+        let len = at_most(self.len, Line::CAPACITY);
+        if buffer.len() < at {
+            return false;
+        }
+        if buffer.len() - at < len {
+            return false;
+        }
+        let mut i = 0;
+        while i < len {
+            buffer[at + i] = bytes[i];
+            i += 1;
+        }
+        true
     }
 
     // The number in decimal, with no zeros in front.

@@ -8,6 +8,7 @@ use borrow.Author.Tests.{ltb-false, leb-true}
 use lib.Dec.{ltb, leb}
 use lib.ListN.{length, drop-of-length-le}
 use Rattle.text.specs.Lines.{space}
+use Rattle.words.specs.Names.{bodyNames}
 use Rattle.words.specs.Words.{runLength, upTo, afterFirst, pieces, nameAt}
 use Rattle.words.proofs.Pieces.{laterPieces, pieces-first}
 
@@ -68,3 +69,8 @@ unfolding nameAt noLonger
 name-length most [] e k = omega arith
 name-length most (n ∷ ns) e zero = leb-true (length n) most (and-eq-true-iff (leb (length n) most) (noLonger most ns) .0 e .0)
 name-length most (n ∷ ns) e (suc k) = name-length most ns (and-eq-true-iff (leb (length n) most) (noLonger most ns) .0 e .1) k
+
+-- the longest names of bodies have seven bytes
+pub body-name-short : (b : ℕ) → length (nameAt bodyNames b) ≤ 7
+unfolding noLonger
+body-name-short b = name-length 7 bodyNames refl b

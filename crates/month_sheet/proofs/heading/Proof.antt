@@ -1,5 +1,7 @@
--- `heading` meets its contract: the text is put on an empty line. Assumes nothing.
+-- `heading` meets its contract: the text is put on an empty line, and fits. Assumes nothing.
+use native.Mathlib.Omega.{arith}
 use borrow.Author.Needs.{needs}
+use Rattle.text.proofs.Holding.{holds}
 use Rattle.month_sheet.specs.MonthSheets.{monthHeading}
 use Rattle.month_sheet.proofs.heading.Statement.{statement}
 use Rattle.month_sheet.proofs.heading.Tie as tie
@@ -15,7 +17,7 @@ text-requires c κs = search needs
 
 returns : tie.Need-returns
 unfolding monthHeading
-returns c = rw (c .text .ensures, c .before .before .empty .ensures)
+returns c = holds _ _ (omega arith) (rw (c .text .ensures, c .before .before .empty .ensures))
 
 pub heading-spec : {M : Type 1} → statement M
 heading-spec = tie.close (tie.spec empty-requires slice-aggregate-text text-requires returns)

@@ -1,29 +1,22 @@
 -- `line` meets its contract: the month's refusal and the line's index decide which line is meant. Assumes nothing.
 use borrow.Author.Needs.{needs}
-use mathlib.Core.List.{[]}
-use mathlib.Core.Path.{_≡_, sym, _∙_}
 use native.Mathlib.Omega.{arith}
-use Rattle.text.specs.declared.Line.{Line}
-use Rattle.text.specs.Lines.{emptyLine, withBytes}
-use Rattle.text.proofs.Lines.{with-bytes-none}
-use Rattle.month_sheet.proofs.Lines.{first-refused, rest-refused, first-is-heading, line-of-record, none-behind}
+use Rattle.text.proofs.Holding.{nothing-held}
+use Rattle.month_sheet.proofs.Lines.{unmapped, first-refused, rest-refused, first-is-heading, line-of-record, none-behind}
 use Rattle.month_sheet.proofs.line.Statement.{statement}
 use Rattle.month_sheet.proofs.line.Tie as tie
-
-nothing : (l : Line) → l ≡ emptyLine → l ≡ withBytes emptyLine []
-nothing l e = e ∙ sym (with-bytes-none emptyLine)
 
 refusal-line-requires : tie.Need-refusal-line-requires
 refusal-line-requires c κs = search needs
 
 returns : tie.Need-returns
-returns c = rw (first-refused (c .before .before .before .before .args .month) _ (c .before .before .if1 .taken) (c .before .if2 .taken)) (c .refusal-line .ensures .made)
+returns c = rw (first-refused (c .before .before .before .before .args .month) _ (c .before .before .if1 .taken) (c .before .if2 .taken)) (c .refusal-line .ensures)
 
 empty-requires : tie.Need-empty-requires
 empty-requires c κs = search needs
 
 returns-2 : tie.Need-returns-2
-returns-2 c = rw (rest-refused (c .before .before .before .before .args .month) _ (c .before .before .if1 .taken) (c .before .if2 .left)) (nothing _ (c .empty .ensures))
+returns-2 c = rw (rest-refused (c .before .before .before .before .args .month) _ (c .before .before .if1 .taken) (c .before .if2 .left)) (nothing-held _ (c .empty .ensures))
 
 heading-requires : tie.Need-heading-requires
 heading-requires c κs = search needs
@@ -35,7 +28,7 @@ empty-requires-2 : tie.Need-empty-requires-2
 empty-requires-2 c κs = search needs
 
 returns-4 : tie.Need-returns-4
-returns-4 c = rw (none-behind (c .before .before .before .before .before .args .month) _ (c .before .before .before .if1 .left) (c .before .if4 .taken)) (nothing _ (c .empty2 .ensures))
+returns-4 c = rw (none-behind (c .before .before .before .before .before .args .month) _ (c .before .before .before .if1 .left) (search (unmapped, needs)) (c .before .if4 .taken)) (nothing-held _ (c .empty2 .ensures))
 
 sub-record-line : tie.Need-sub-record-line
 sub-record-line c = search needs
@@ -50,7 +43,7 @@ record-line-requires : tie.Need-record-line-requires
 record-line-requires c κs = search needs
 
 returns-5 : tie.Need-returns-5
-returns-5 c = rw (line-of-record (c .before .before .before .before .before .before .before .args .month) _ (c .before .before .before .before .before .if1 .left) (c .before .before .before .before .if3 .left) (omega arith)) (c .record-line .ensures)
+returns-5 c = rw (line-of-record (c .before .before .before .before .before .before .before .args .month) _ (c .before .before .before .before .before .if1 .left) (search (unmapped, needs)) (c .before .before .before .before .if3 .left) (omega arith)) (c .record-line .ensures)
 
 pub line-spec : {M : Type 1} → statement M
 line-spec =

@@ -1,6 +1,6 @@
--- `record_line` meets its contract: what is put one after another is put at once. Assumes nothing.
+-- `record_line` meets its contract: what is put one after another is put at once, and ended. Assumes nothing.
 use borrow.Author.Needs.{needs}
-use Rattle.month_sheet.proofs.Lines.{record-line-made}
+use Rattle.month_sheet.proofs.Lines.{record-line-held}
 use Rattle.month_sheet.proofs.record_line.Statement.{statement}
 use Rattle.month_sheet.proofs.record_line.Tie as tie
 
@@ -28,13 +28,20 @@ slice-aggregate-numbers-3 c = search needs
 numbers-requires-3 : tie.Need-numbers-requires-3
 numbers-requires-3 c κs = search needs
 
-byte-requires : tie.Need-byte-requires
-byte-requires c κs = search needs
+ended-requires : tie.Need-ended-requires
+ended-requires c κs = search needs
 
 returns : tie.Need-returns
 returns c =
-    rw (c .byte .ensures, c .before .numbers3 .ensures, c .before .before .before .numbers2 .ensures, c .before .before .before .before .before .numbers .ensures, c .before .before .before .before .before .before .before .number .ensures, c .before .before .before .before .before .before .before .before .empty .ensures)
-    (record-line-made _ _)
+    rw (c .ended .ensures)
+    (record-line-held _ _
+    (rw (
+      c .before .numbers3 .ensures,
+      c .before .before .before .numbers2 .ensures,
+      c .before .before .before .before .before .numbers .ensures,
+      c .before .before .before .before .before .before .before .number .ensures,
+      c .before .before .before .before .before .before .before .before .empty .ensures,
+    )))
 
 pub record-line-spec : {M : Type 1} → statement M
 record-line-spec =
@@ -48,5 +55,5 @@ record-line-spec =
     numbers-requires-2
     slice-aggregate-numbers-3
     numbers-requires-3
-    byte-requires
+    ended-requires
     returns)
