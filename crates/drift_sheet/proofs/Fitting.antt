@@ -1,6 +1,6 @@
 -- A line is put together from its parts and fits: a name has at most seven bytes, a number of 64 bits twenty digits, and a day with its date is short. Assumes nothing.
 use mathlib.Core.List.{List, [], _∷_, _++_, append-assoc}
-use mathlib.Core.Path.{_≡_, refl}
+use mathlib.Core.Path.{_≡_}
 use Prim.Native.Nat.{ℕ, _+_, _≤_, _<_}
 use native.Mathlib.Decide.{decLe}
 use native.Mathlib.Omega.{arith}
@@ -17,16 +17,12 @@ use Rattle.text.proofs.Lines.{with-byte-is, with-bytes-append}
 use Rattle.text.proofs.Printing.{digits-length}
 use Rattle.words.specs.Names.{bodyNames}
 use Rattle.words.specs.Words.{nameAt}
-use Rattle.words.proofs.Names.{noLonger, name-length}
+use Rattle.words.proofs.Names.{body-name-short}
 use Rattle.drift_sheet.specs.DriftSheets.{driftHeading, driftLine}
 
 pub heading-fits : length driftHeading ≤ lineCapacity
 unfolding driftHeading
 heading-fits = omega arith
-
-name-short : (b : ℕ) → length (nameAt bodyNames b) ≤ 7
-unfolding noLonger
-name-short b = name-length 7 bodyNames refl b
 
 -- a number that is no day's is followed by 0-0-0
 no-day-short : (n : ℕ) → lastDay < n → n < 4294967296 → length (dayBytes n) ≤ 19
@@ -43,7 +39,7 @@ any-day-short n h = go (decLe n lastDay)
 pub body-line-fits : (b n d day : ℕ) → n < 18446744073709551616 → d < 18446744073709551616 → day < 4294967296 → length (driftLine b n d day) ≤ lineCapacity
 unfolding driftLine
 body-line-fits b n d day hn hd h =
-    let name = name-short b in
+    let name = body-name-short b in
     let numerator = digits-length 19 n (omega arith) in
     let divisor = digits-length 19 d (omega arith) in
     let dated = any-day-short day h in

@@ -13,14 +13,15 @@ use Rattle.older_motions.specs.Drifts.{farthestOver, driftsOver}
 use Rattle.text.specs.Ascii.{ascii}
 use Rattle.text.specs.Decimal.{digitsWithin, digitsOf}
 use Rattle.text.specs.Lines.{refusalLine}
+use Rattle.text.specs.Sheets.{joined}
 use Rattle.words.specs.Words.{nameAt}
-use Rattle.drift_sheet.specs.DriftSheets.{driftHeading, driftLine, linesOf, joined, driftSheet}
+use Rattle.drift_sheet.specs.DriftSheets.{driftHeading, driftLine, driftLines}
 
 pub sheets :
-    driftSheet (driftsOver 0 0) ∷ driftSheet (driftsOver 0 401600) ∷ driftSheet (driftsOver 1 0) ∷ []
+    joined (driftLines (driftsOver 0 0)) ∷ joined (driftLines (driftsOver 0 401600)) ∷ joined (driftLines (driftsOver 1 0)) ∷ []
     ≡ ascii "body numerator divisor day date\nsun 0 55227075750 0 1520-3-19\nmoon 0 187772057550 0 1520-3-19\napogee 0 11045424796 0 1520-3-19\n"
     ∷ ascii "refused 2\n"
     ∷ ascii "refused 5\n"
     ∷ []
-unfolding driftSheet joined linesOf driftHeading driftLine refusalLine nameAt dayBytes dateBytes dateOfDay dateOn digitsOf digitsWithin driftsOver spanRefusal farthestOver distanceOn aheadOn sunMotion moonMotion apogeeMotion table reduced largestOver firstWith daysFrom
+unfolding joined driftLines driftHeading driftLine refusalLine nameAt dayBytes dateBytes dateOfDay dateOn digitsOf digitsWithin driftsOver spanRefusal farthestOver distanceOn aheadOn sunMotion moonMotion apogeeMotion table reduced largestOver firstWith daysFrom
 sheets = refl

@@ -4,7 +4,6 @@ use mathlib.Core.Bool.{cond}
 use mathlib.Core.List.{List, [], _∷_, _++_}
 use Prim.Native.Nat.{ℕ}
 use lib.Dec.{eqb}
-use lib.ListN.{getD}
 use Rattle.dated.specs.Dated.{dayBytes}
 use Rattle.days.specs.Refusals.{accepted}
 use Rattle.older_motions.specs.declared.Farthest.{Farthest}
@@ -15,6 +14,7 @@ use Rattle.span_line.specs.SpanLine.{spanInput}
 use Rattle.text.specs.Ascii.{ascii}
 use Rattle.text.specs.Decimal.{digitsOf}
 use Rattle.text.specs.Lines.{refusalLine}
+use Rattle.text.specs.Sheets.{joined}
 use Rattle.words.specs.Names.{bodyNames}
 use Rattle.words.specs.Words.{nameAt}
 
@@ -36,20 +36,16 @@ driftsRead bs =
     cond (eqb (span .refusal) accepted) (driftsOver (span .first) (span .last)) (noDrifts (span .refusal))
 
 -- the lines of a sheet: the heading and the three, or the refusal
-unfoldable pub linesOf : Drifts → List (List ℕ)
-linesOf d =
+unfoldable pub driftLines : Drifts → List (List ℕ)
+driftLines d =
     cond (eqb (d .refusal) accepted)
     (driftHeading ∷ driftLineOf 0 (d .sun) ∷ driftLineOf 1 (d .moon) ∷ driftLineOf 2 (d .apogee) ∷ [])
     (refusalLine (d .refusal) ∷ [])
 
--- line k, counted from 0; behind the last one nothing
-unfoldable pub driftSheetLine : Drifts → ℕ → List ℕ
-driftSheetLine d k = getD (linesOf d) k []
+-- the lines that are printed for an input
+abbrev pub driftLinesFor : List ℕ → List (List ℕ)
+driftLinesFor input = driftLines (driftsRead input)
 
--- ALL THAT IS PRINTED: the lines one after another
-unfoldable pub joined : List (List ℕ) → List ℕ
-joined [] = []
-joined (l ∷ ls) = l ++ joined ls
-
-unfoldable pub driftSheet : Drifts → List ℕ
-driftSheet d = joined (linesOf d)
+-- ALL THAT IS PRINTED for an input
+abbrev pub driftsPrinted : List ℕ → List ℕ
+driftsPrinted input = joined (driftLinesFor input)

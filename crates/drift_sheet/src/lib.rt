@@ -3,8 +3,10 @@ use days::refusal;
 use older_motions::Drifts;
 use text::Line;
 ghost use mathlib.Core.Path.{_≡_};
+ghost use lib.ListN.{length};
 ghost use Rattle.text.specs.Lines.{Holds};
-ghost use Rattle.drift_sheet.specs.DriftSheets.{driftHeading, driftLine, driftsRead, driftSheetLine};
+ghost use Rattle.text.specs.Sheets.{lineAt};
+ghost use Rattle.drift_sheet.specs.DriftSheets.{driftHeading, driftLine, driftsRead, driftLines};
 
 // The heading, and a line for each of the three.
 pub const LINES: usize = 4;
@@ -41,9 +43,19 @@ fn body_line(body: usize, numerator: u64, divisor: u64, day: u32) -> Line
     dated::put_day(fraction, day).byte(b'\n')
 }
 
+// How many lines are printed for drifts; a refusal is one.
+pub fn line_count(drifts: Drifts) -> usize
+    ensures { λ r. ⌜ r ≡ length (driftLines drifts) ⌝ }
+{
+    if drifts.refusal != refusal::NONE {
+        return 1;
+    }
+    LINES
+}
+
 // One of the lines that are printed for drifts, counted from 0; behind the last one nothing.
 pub fn line(drifts: Drifts, index: usize) -> Line
-    ensures { λ r. ⌜ Holds r (driftSheetLine drifts index) ⌝ }
+    ensures { λ r. ⌜ Holds r (lineAt (driftLines drifts) index) ⌝ }
 {
     if drifts.refusal != refusal::NONE {
         if index == 0 {

@@ -1,19 +1,10 @@
 -- `line` meets its contract: the refusal and the line's index decide which line is meant. Assumes nothing.
-use mathlib.Core.List.{[]}
-use mathlib.Core.Path.{_≡_}
 use native.Mathlib.Omega.{arith}
 use borrow.Author.Needs.{needs}
-use Rattle.text.specs.declared.Line.{Line}
-use Rattle.text.specs.Lines.{emptyLine, withBytes, Holds}
-use Rattle.text.proofs.Holding.{holds}
+use Rattle.text.proofs.Holding.{nothing-held}
 use Rattle.drift_sheet.proofs.Lines.{first-refused, rest-refused, line-0, line-1, line-2, line-3, none-behind}
 use Rattle.drift_sheet.proofs.line.Statement.{statement}
 use Rattle.drift_sheet.proofs.line.Tie as tie
-
--- an empty line holds nothing
-nothing : (l : Line) → l ≡ emptyLine → Holds l []
-unfolding withBytes
-nothing l e = holds l [] (omega arith) e
 
 refusal-line-requires : tie.Need-refusal-line-requires
 refusal-line-requires c κs = search needs
@@ -25,7 +16,7 @@ empty-requires : tie.Need-empty-requires
 empty-requires c κs = search needs
 
 returns-2 : tie.Need-returns-2
-returns-2 c = rw (rest-refused (c .before .before .before .before .args .drifts) (c .before .before .if1 .taken) _ (c .before .if2 .left)) (nothing _ (c .empty .ensures))
+returns-2 c = rw (rest-refused (c .before .before .before .before .args .drifts) (c .before .before .if1 .taken) _ (c .before .if2 .left)) (nothing-held _ (c .empty .ensures))
 
 heading-requires : tie.Need-heading-requires
 heading-requires c κs = search needs
@@ -55,7 +46,7 @@ returns-6 : tie.Need-returns-6
 returns-6 c = rw (line-3 (c .before .before .before .before .before .before .before .args .drifts) (c .before .before .before .before .before .if1 .left) _ (c .before .match .keys4)) (c .body-line3 .ensures)
 
 returns-7 : tie.Need-returns-7
-returns-7 c = rw (none-behind (c .before .before .before .before .before .before .before .args .drifts) (c .before .before .before .before .before .if1 .left) (c .before .before .before .before .before .before .before .args .index) (omega (arith, c .before .match .rest))) (nothing _ (c .empty2 .ensures))
+returns-7 c = rw (none-behind (c .before .before .before .before .before .before .before .args .drifts) (c .before .before .before .before .before .if1 .left) (c .before .before .before .before .before .before .before .args .index) (omega (arith, c .before .match .rest))) (nothing-held _ (c .empty2 .ensures))
 
 pub line-spec : {M : Type 1} → statement M
 line-spec =
