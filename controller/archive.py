@@ -43,11 +43,13 @@ TARGETS = {
 }
 FLAGS = ["-Os", "-ffunction-sections", "-fdata-sections", "-fstack-size-section", "-fno-asynchronous-unwind-tables", "-Wno-override-module"]
 
-# Every function of these crates is put into its callers. So the compiler sees that the host's query asks for a Sun arc and a weekday alone, and which body's row a
-# mean longitude takes: what the call never comes to falls away, and with it the copies of the query and of the table on the stack.
+# Every function of these crates is put into its callers. So the compiler sees that the host's query asks for a Sun arc
+# and a weekday alone, and which body's row a mean longitude takes: what the call never comes to falls away, and with it
+# the copies of the query and of the table on the stack.
 INLINED = {"search", "query", "longitudes"}
 
-# A function of the runtime is not in the archive; so many bytes of stack are reckoned for each. (libgcc's division of 64 bits takes 48 on a Cortex-M4.)
+# A function of the runtime is not in the archive; so many bytes of stack are reckoned for each. (libgcc's division of
+# 64 bits takes 48 on a Cortex-M4.)
 RUNTIME_STACK = 128
 
 

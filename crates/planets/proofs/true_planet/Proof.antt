@@ -1,4 +1,5 @@
--- `true_planet` meets its contract: its calls are the meaning's steps, each correction with its sign a number of seconds forwards.
+-- `true_planet` meets its contract: its calls are the meaning's steps, each correction with its sign a number of
+-- seconds forwards.
 use borrow.Author.Needs.{needs}
 use mathlib.Core.Path.{ap, _∙_}
 use Prim.Native.Nat.{ℕ, _+_, _/_, _%_}

@@ -1,4 +1,5 @@
--- `longitude` meets its contract: the answer is the library's for the body of that number, where there is one. Assumes nothing.
+-- `longitude` meets its contract: the answer is the library's for the body of that number, where there is one. Assumes
+-- nothing.
 use borrow.Author.Needs.{needs}
 use mathlib.Core.Path.{refl}
 use borrow.Author.Tests.{le-leb, lt-leb}

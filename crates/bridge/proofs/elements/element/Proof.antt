@@ -1,4 +1,5 @@
--- `element` meets its contract: each number's answer is the list's at its place, and behind the list there is none. Assumes nothing.
+-- `element` meets its contract: each number's answer is the list's at its place, and behind the list there is none.
+-- Assumes nothing.
 use borrow.Author.Needs.{needs}
 use mathlib.Core.List.{[], _∷_}
 use mathlib.Core.Path.{_≡_, refl, sym, _∙_}
