@@ -46,7 +46,7 @@ pub extern "C" fn bridge_examine_matches(query: &[u8], day: u32) -> u32
     look_at(query, day).matches
 }
 
-// The day that the walk takes next.
+// The day that the scan visits next.
 #[no_mangle]
 pub extern "C" fn bridge_examine_next(query: &[u8], day: u32) -> u32
     ensures { λ r. ⌜ r ≡ bridgeExamined (now (query .entry)) day .next ⌝ }

@@ -11,6 +11,7 @@ use Rattle.days.specs.declared.Day.{Day}
 use Rattle.days.specs.declared.DayAnswer.{DayAnswer}
 use Rattle.days.specs.declared.NumberAnswer.{NumberAnswer}
 use Rattle.days.specs.Refusals.{outOfRange}
+use Rattle.days.specs.Parts.{IsNumber}
 use Rattle.days.specs.Days.{cycleDays, cycles, lastDay, count, weekdayOn, weekdayAt, pairAt, theDay, noDay, theNumber, noNumber, inRange, onDay, dayOf, nextOf, refusedSpanOr, spanRefusal}
 
 -- what a pair in range keeps to
@@ -142,3 +143,7 @@ next-cycle d e h k =
 pub next-none : (d : Day) → inRange d ≡ true → 4015 ≤ d .within → 99 ≤ d .cycle → nextOf d ≡ noDay outOfRange
 unfolding nextOf
 next-none d e h k = let r = in-range d e in rw e (past-last (count d + 1) (omega arith))
+
+-- an answer that is the one meant is so number by number
+pub is-number : {found meant : NumberAnswer} → found ≡ meant → IsNumber found meant
+is-number e = record { refusal = ap (λ (a : NumberAnswer). a .refusal) e; number = ap (λ (a : NumberAnswer). a .number) e }

@@ -1,3 +1,4 @@
 pub mod Refusals
 pub mod Days
 pub mod Weekdays
+pub mod Parts

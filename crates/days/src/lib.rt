@@ -2,7 +2,7 @@
 pub mod refusal;
 
 ghost use mathlib.Core.Path.{_≡_};
-ghost use Rattle.days.specs.Days.{theNumber, noNumber, inRange, dayOf, pairOf, numberOf, julianDayOf, weekdayOf, nextOf, spanRefusal};
+ghost use Rattle.days.specs.Days.{theNumber, noNumber, inRange, pairAt, dayOf, pairOf, numberOf, julianDayOf, weekdayOf, nextOf, spanRefusal};
 ghost use Rattle.days.specs.Weekdays.{bitOf, inSet};
 
 // A cycle from 0 to 99 and a day within it from 0 to 4015: paper 01's pair (C, A). Any other pair is refused wherever it is taken.
@@ -72,15 +72,23 @@ impl Day {
         ensures { λ r. ⌜ r ≡ dayOf number ⌝ }
     {
         if number <= Day::LAST {
+            let day = Day::at(number);
             DayAnswer {
                 refusal: refusal::NONE,
-                day: Day {
-                    cycle: number / Day::CYCLE_DAYS,
-                    within: number % Day::CYCLE_DAYS,
-                },
+                day,
             }
         } else {
             NO_DAY
+        }
+    }
+
+    // The pair of any number. Past the last day it is out of range, and whatever takes it refuses it.
+    pub fn at(number: u32) -> Day
+        ensures { λ r. ⌜ r ≡ pairAt number ⌝ }
+    {
+        Day {
+            cycle: number / Day::CYCLE_DAYS,
+            within: number % Day::CYCLE_DAYS,
         }
     }
 

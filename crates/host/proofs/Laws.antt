@@ -1,9 +1,13 @@
--- What `graha_day_result` hands back is the refusal of every call that takes a day: each answer is refused exactly past the last day, by cases on whether there is such a day.
+-- What `graha_day_result` hands back is the refusal of every call that takes a day: each answer is refused exactly past the last day, by cases on whether there is such a day. And the
+-- host's query is a query as paper 01 has it, so the laws of `search/proofs/Single.antt` hold of its search.
 -- Assumes nothing.
+use mathlib.Core.Bool.{true}
+use mathlib.Core.List.{_∷_}
 use mathlib.Core.Path.{_≡_, refl}
 use Prim.Native.Nat.{ℕ, _<_, _≤_}
 use native.Mathlib.Decide.{decLe}
 use native.Mathlib.Omega.{arith}
+use lib.ListN.{replicate}
 use borrow.Author.Tests.{le-leb, lt-leb}
 use Rattle.days.specs.declared.Day.{Day}
 use Rattle.days.specs.Refusals.{accepted, outOfRange}
@@ -15,7 +19,10 @@ use Rattle.longitudes.specs.Answers.{longitudeOf, longitudesOf}
 use Rattle.longitudes.proofs.Answers.{longitude-given, longitude-refused}
 use Rattle.panchanga.specs.TrueLongitudes.{firstEdition, isEdition}
 use Rattle.panchanga.specs.OnDays.{panchangaOf}
+use Rattle.query.specs.Conditions.{notAsked, noArc}
+use Rattle.search.proofs.PaperQuery.{queryOf}
 use Rattle.host.specs.Calls.{onNumber}
+use Rattle.host.specs.HostQuery.{hostQuery}
 use Rattle.host.proofs.OnNumbers.{pair-past-last, on-number}
 
 -- the answers for the day number n: its date, and what is reckoned from `pairAt n`, which the calls make of n also past the last day
@@ -60,3 +67,21 @@ day-result n = go (decLe n lastDay)
 -- the number that a call hands back is the number of the answer that has this refusal
 pub day-number : (f : Day → ℕ) (n : ℕ) → onDay f (pairAt n) .number ≡ onNumber f n
 day-number f n = on-number f n {d = pairAt n} refl refl
+
+-- the host's query is one of paper 01's: one weekday and one Sun arc, both given, and nothing else
+pub host-single :
+    (first last start width weekday : ℕ) →
+    hostQuery first last start width weekday
+    ≡ queryOf
+    (record {
+      first = first;
+      last = last;
+      edition = firstEdition;
+      weekday = record { given = true; value = weekday };
+      tithi = notAsked;
+      nakshatra = notAsked;
+      yoga = notAsked;
+      arcs = record { given = true; start = start; width = width } ∷ replicate 8 noArc;
+    })
+unfolding hostQuery
+host-single first last start width weekday = refl

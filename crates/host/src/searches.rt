@@ -1,4 +1,5 @@
-// The host's search, for a Sun arc and a weekday, both always; it asks for nothing that hangs on an edition. The walk over the days is the library's.
+// The host's search, for a Sun arc and a weekday, both always; it asks for nothing that hangs on an edition. The scan
+// of the days is the library's.
 use panchanga::FIRST_EDITION;
 use query::Arc;
 use query::Asked;
@@ -38,7 +39,9 @@ fn query_of(first: u32, last: u32, start: u32, width: u32, weekday: u32) -> Quer
     }
 }
 
-// The refusal, or 0 with the matching days written to the list: four bytes a day, low byte first. (The query is written out here once more: from `query_of` it would stand on the stack twice.)
+// The refusal, or 0 with the matching days written to the list: four bytes a day, low byte first. (The query is written
+// out here once more: from `query_of` it would stand on the stack twice, and the deepest call take 2,226 bytes of the
+// 2,048 allowed.)
 #[no_mangle]
 pub extern "C" fn graha_search(
     first: u32,

@@ -1,7 +1,7 @@
 -- A test of each of the bodies, by its outcomes; and a day's conditions from the outcomes of their tests, case by case.
 -- Assumes nothing.
 use mathlib.Core.Path.{_≡_, refl, sym, ap, _∙_}
-use mathlib.Core.Bool.{Bool, true, false, cond, not, _&&_, _||_, and-true, and-false, or-true, or-false, true≢false, false≢true}
+use mathlib.Core.Bool.{Bool, true, false, cond, not, _&&_, and-true, and-false, or-false, true≢false, false≢true}
 use mathlib.Core.List.{List, [], _∷_}
 use Prim.Native.Nat.{ℕ, zero, suc, _≤_, _<_}
 use native.Mathlib.Omega.{arith}
@@ -17,22 +17,17 @@ use Rattle.panchanga.proofs.Answers.{elements-given}
 use Rattle.query.specs.declared.Asked.{Asked}
 use Rattle.query.specs.declared.BodyArcs.{BodyArcs}
 use Rattle.query.specs.declared.Query.{Query}
-use Rattle.query.specs.declared.More.{More}
-use Rattle.query.specs.declared.More.the-variants.{Nothing, Elements, Arcs}
-use Rattle.query.specs.Conditions.{eachOther, someOther, eachBody, meets, weekdayMet, ifGiven, givenArcs, arcsGiven, inArc, inSome, inArcs, arcsAt, bodyArcsInRange, arcsInRange, bodyMet, arcsMet, otherArcsMet, elementsMet, queryElementsMet, othersMet, otherArcsGiven, elementsGiven, moreAsked}
+use Rattle.query.specs.Conditions.{eachOther, eachBody, meets, weekdayMet, ifGiven, givenArcs, inArc, inSome, arcsAt, bodyArcsInRange, arcsInRange, bodyMet, arcsMet, elementsMet}
+use Rattle.query.specs.Parts.{otherArcsMet, othersMet}
 use Rattle.query.specs.Query.{conditionsMet}
-
-pub neither : (a b : Bool) → (a || b) ≡ false → (a ≡ false) × (b ≡ false)
-neither true b e = absurd (true≢false e)
-neither false b e = (refl, e)
 
 pub each-true : (p : ℕ → Bool) → ((k : ℕ) → k < 9 → p k ≡ true) → eachBody p ≡ true
 each-true p h =
     rw (h 0 (lit< tt), h 1 (lit< tt), h 2 (lit< tt), h 3 (lit< tt), h 4 (lit< tt), h 5 (lit< tt), h 6 (lit< tt), h 7 (lit< tt), h 8 (lit< tt))
 
--- one outcome decides: of a test of each other body a false one, of a test of some a true one
+-- a false outcome decides
 module _ (p : ℕ → Bool) where
-  other-false : (k : ℕ) → 0 < k → k < 9 → p k ≡ false → eachOther p ≡ false
+  pub other-false : (k : ℕ) → 0 < k → k < 9 → p k ≡ false → eachOther p ≡ false
   other-false zero l u e = absurd (omega arith)
   other-false (suc zero) l u e = simp e
   other-false (suc (suc zero)) l u e = simp (e, and-false)
@@ -47,25 +42,6 @@ module _ (p : ℕ → Bool) where
   pub each-false : (k : ℕ) → k < 9 → p k ≡ false → eachBody p ≡ false
   each-false zero u e = rw e
   each-false (suc k) u e = rw (other-false (suc k) (omega arith) u e) (and-false (p 0))
-
-  other-true : (k : ℕ) → 0 < k → k < 9 → p k ≡ true → someOther p ≡ true
-  other-true zero l u e = absurd (omega arith)
-  other-true (suc zero) l u e = simp e
-  other-true (suc (suc zero)) l u e = simp (e, or-true)
-  other-true (suc (suc (suc zero))) l u e = simp (e, or-true)
-  other-true (suc (suc (suc (suc zero)))) l u e = simp (e, or-true)
-  other-true (suc (suc (suc (suc (suc zero))))) l u e = simp (e, or-true)
-  other-true (suc (suc (suc (suc (suc (suc zero)))))) l u e = simp (e, or-true)
-  other-true (suc (suc (suc (suc (suc (suc (suc zero))))))) l u e = simp (e, or-true)
-  other-true (suc (suc (suc (suc (suc (suc (suc (suc zero)))))))) l u e = simp (e, or-true)
-  other-true (suc (suc (suc (suc (suc (suc (suc (suc (suc n))))))))) l u e = absurd (omega arith)
-
-  all-false : someOther p ≡ false → (k : ℕ) → 0 < k → k < 9 → p k ≡ false
-  all-false e k l u = go (p k) refl
-    where
-      go : (b : Bool) → p k ≡ b → p k ≡ false
-      go true f = absurd (true≢false (sym (other-true k l u f) ∙ e))
-      go false f = f
 
 pub arcs-true : (arcs : List BodyArcs) → ((k : ℕ) → k < 9 → bodyArcsInRange (arcsAt arcs k) ≡ true) → arcsInRange arcs ≡ true
 unfolding arcsInRange
@@ -101,16 +77,6 @@ module _ (a : BodyArcs) (x : ℕ) where
       go true false false u e f k = rw e
       go false t true u e f k = rw f (sym (or-false u))
       go false t false u e f k = refl
-
-module _ (arcs : List BodyArcs) where
-  pub arc-given : (body : ℕ) → 0 < body → body < 9 → arcsGiven (arcsAt arcs body) ≡ true → true ≡ otherArcsGiven arcs
-  unfolding otherArcsGiven
-  arc-given body l u e = sym (other-true (λ (k : ℕ). arcsGiven (arcsAt arcs k)) body l u e)
-
-  pub no-arc-given : ((body : ℕ) → 0 < body → body < 9 → arcsGiven (arcsAt arcs body) ≡ false) → false ≡ otherArcsGiven arcs
-  unfolding otherArcsGiven
-  no-arc-given h =
-      rw (h 1 (lit< tt) (lit< tt), h 2 (lit< tt) (lit< tt), h 3 (lit< tt) (lit< tt), h 4 (lit< tt) (lit< tt), h 5 (lit< tt) (lit< tt), h 6 (lit< tt) (lit< tt), h 7 (lit< tt) (lit< tt), h 8 (lit< tt) (lit< tt))
 
 module _ (arcs : List BodyArcs) (d : Day) where
   -- an arc that is not met decides
@@ -165,47 +131,6 @@ module _ (edition : ℕ) (tithi nakshatra yoga : Asked) (d : Day) where
 
   pub elements-tested : {found : Bool} → (inRange d ≡ true) × (isEdition edition ≡ true) → found ≡ elementsMet edition tithi nakshatra yoga d → found ≡ (isEdition edition && (inRange d && elementsMet edition tithi nakshatra yoga d))
   elements-tested r e = e ∙ rw (r .0, r .1)
-
--- what more is asked says which conditions are not given
-abbrev number : More → ℕ
-number Nothing = 0
-number Elements = 1
-number Arcs = 2
-
-module _ (q : Query) where
-  pub only-elements : moreAsked q ≡ Elements → otherArcsGiven (q .arcs) ≡ false
-  unfolding moreAsked
-  only-elements e = go (otherArcsGiven (q .arcs)) (elementsGiven q) refl (ap number e)
-    where
-      go : (t u : Bool) → otherArcsGiven (q .arcs) ≡ t → number (cond t Arcs (cond u Elements Nothing)) ≡ 1 → otherArcsGiven (q .arcs) ≡ false
-      go true u a k = absurd (omega arith)
-      go false u a k = a
-
-  nothing-more : moreAsked q ≡ Nothing → (otherArcsGiven (q .arcs) ≡ false) × (elementsGiven q ≡ false)
-  unfolding moreAsked
-  nothing-more e = go (otherArcsGiven (q .arcs)) (elementsGiven q) refl refl (ap number e)
-    where
-      go : (t u : Bool) → otherArcsGiven (q .arcs) ≡ t → elementsGiven q ≡ u → number (cond t Arcs (cond u Elements Nothing)) ≡ 0 → (otherArcsGiven (q .arcs) ≡ false) × (elementsGiven q ≡ false)
-      go true u a b k = absurd (omega arith)
-      go false true a b k = absurd (omega arith)
-      go false false a b k = (a, b)
-
-module _ (q : Query) (d : Day) where
-  -- where no arc of another body is given, the elements decide
-  pub elements-decide : otherArcsGiven (q .arcs) ≡ false → isEdition (q .edition) && (inRange d && queryElementsMet q d) ≡ othersMet q d
-  unfolding otherArcsGiven othersMet otherArcsMet inArcs
-  elements-decide e =
-      let arc = all-false (λ (body : ℕ). arcsGiven (arcsAt (q .arcs) body)) e in
-      rw (arc 1 (lit< tt) (lit< tt), arc 2 (lit< tt) (lit< tt), arc 3 (lit< tt) (lit< tt), arc 4 (lit< tt) (lit< tt), arc 5 (lit< tt) (lit< tt), arc 6 (lit< tt) (lit< tt), arc 7 (lit< tt) (lit< tt), arc 8 (lit< tt) (lit< tt))
-
-  -- where nothing more is asked, nothing more is to be met
-  pub no-more : isEdition (q .edition) ≡ true → moreAsked q ≡ Nothing → inRange d ≡ true → othersMet q d ≡ true
-  unfolding elementsMet meets
-  no-more edition e r =
-      let none = nothing-more q e in
-      let tithi = neither (q .tithi .given) (q .nakshatra .given || q .yoga .given) (none .1) in
-      let others = neither (q .nakshatra .given) (q .yoga .given) (tithi .1) in
-      sym (elements-decide (none .0)) ∙ rw (edition, r, tithi .0, others .0, others .1)
 
 -- the conditions of day n, in the order in which they are tested
 module _ (q : Query) (n : ℕ) where

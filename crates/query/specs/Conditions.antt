@@ -6,18 +6,14 @@ use Prim.Native.Nat.{ℕ, min}
 use lib.Dec.{leb, ltb, eqb}
 use lib.ListN.{getD}
 use Rattle.days.specs.declared.Day.{Day}
-use Rattle.days.specs.Days.{inRange}
 use Rattle.days.specs.Weekdays.{bitOf, inSet, everyWeekday}
 use Rattle.longitudes.specs.Longitudes.{circle, longitudeAt, differenceOf}
-use Rattle.panchanga.specs.TrueLongitudes.{isEdition}
 use Rattle.panchanga.specs.OnDays.{tithiAt, nakshatraAt, yogaAt}
 use Rattle.query.specs.declared.Asked.{Asked}
 use Rattle.query.specs.declared.Weekdays.{Weekdays}
 use Rattle.query.specs.declared.Arc.{Arc}
 use Rattle.query.specs.declared.BodyArcs.{BodyArcs}
 use Rattle.query.specs.declared.Query.{Query}
-use Rattle.query.specs.declared.More.{More}
-use Rattle.query.specs.declared.More.the-variants.{Nothing, Elements, Arcs}
 
 -- no number asked for, no weekdays, no arc, and no arc of a body
 abbrev pub notAsked : Asked
@@ -75,12 +71,9 @@ unfoldable pub nearestStart : List Arc → ℕ → ℕ
 nearestStart [] x = circle
 nearestStart (a ∷ others) x = min (differenceOf (a .start) x) (nearestStart others x)
 
--- a test holds for each body but the Sun, for some of these, for each of the nine
+-- a test holds for each body but the Sun, and for each of the nine
 abbrev pub eachOther : (ℕ → Bool) → Bool
 eachOther p = p 1 && (p 2 && (p 3 && (p 4 && (p 5 && (p 6 && (p 7 && p 8))))))
-
-abbrev pub someOther : (ℕ → Bool) → Bool
-someOther p = p 1 || (p 2 || (p 3 || (p 4 || (p 5 || (p 6 || (p 7 || p 8))))))
 
 abbrev pub eachBody : (ℕ → Bool) → Bool
 eachBody p = p 0 && eachOther p
@@ -96,9 +89,6 @@ bodyMet arcs d body = inArcs (arcsAt arcs body) (longitudeAt body d)
 unfoldable pub arcsMet : List BodyArcs → Day → Bool
 arcsMet arcs d = eachBody (bodyMet arcs d)
 
-unfoldable pub otherArcsMet : List BodyArcs → Day → Bool
-otherArcsMet arcs d = eachOther (bodyMet arcs d)
-
 -- a day has the elements asked for, in an edition
 unfoldable pub elementsMet : ℕ → Asked → Asked → Asked → Day → Bool
 elementsMet edition tithi nakshatra yoga d =
@@ -107,22 +97,6 @@ elementsMet edition tithi nakshatra yoga d =
 -- those that a query asks for
 abbrev pub queryElementsMet : Query → Day → Bool
 queryElementsMet q d = elementsMet (q .edition) (q .tithi) (q .nakshatra) (q .yoga) d
-
--- a day meets all conditions beside the Sun's arcs and the weekdays; a pair out of range is no day, and a number that is no edition has no elements
-unfoldable pub othersMet : Query → Day → Bool
-othersMet q d = isEdition (q .edition) && (inRange d && (otherArcsMet (q .arcs) d && queryElementsMet q d))
-
--- an arc of another body than the Sun is given
-unfoldable pub otherArcsGiven : List BodyArcs → Bool
-otherArcsGiven arcs = someOther (λ (body : ℕ). arcsGiven (arcsAt arcs body))
-
--- an element is asked for
-abbrev pub elementsGiven : Query → Bool
-elementsGiven q = q .tithi .given || (q .nakshatra .given || q .yoga .given)
-
--- what is asked beside the Sun's arcs and the weekdays
-unfoldable pub moreAsked : Query → More
-moreAsked q = cond (otherArcsGiven (q .arcs)) Arcs (cond (elementsGiven q) Elements Nothing)
 
 -- a number that is given is at most the largest there is
 unfoldable pub askedInRange : Asked → ℕ → Bool

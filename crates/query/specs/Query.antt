@@ -26,7 +26,8 @@ inSpan q n = leb (q .first) n && leb n (q .last)
 unfoldable pub matches : Query → ℕ → Bool
 matches q n = inSpan q n && conditionsMet q n
 
--- why a query is refused whatever list is lent, or 0: the edition's 14 first, then in paper 01's order. 0 is paper 01's well-formed reading
+-- why a query is refused whatever list is lent, or 0: the edition's 14 first, then in paper 01's order. 0 is paper 01's
+-- well-formed reading
 unfoldable pub refusalOf : Query → ℕ
 refusalOf q =
     cond (isEdition (q .edition))

@@ -1,17 +1,20 @@
-// A query: its conditions, their ranges, and whether a day meets those that few days have to be tested for.
+// A query: its conditions, their ranges, and whether a day meets them.
 use days::Day;
 use days::refusal;
 use longitudes::Body;
 use longitudes::CIRCLE;
 ghost use mathlib.Core.Path.{_≡_};
 ghost use mathlib.Core.Bool.{true, _&&_};
-ghost use Rattle.days.specs.Days.{inRange};
+ghost use Prim.Native.Nat.{_≤_};
+ghost use lib.Dec.{leb};
+ghost use Rattle.days.specs.Days.{lastDay, weekdayOn, inRange};
 ghost use Rattle.longitudes.specs.Longitudes.{longitudeAt};
 ghost use Rattle.longitudes.specs.Answers.{bodyNumber};
 ghost use Rattle.panchanga.specs.TrueLongitudes.{isEdition};
 ghost use Rattle.panchanga.specs.OnDays.{nakshatraAt};
-ghost use Rattle.query.specs.Conditions.{onlyWeekday, onlyArc, meets, arcsGiven, givenArcs, inArc, inSome, inArcs, askedInRange, weekdaysInRange, arcInRange, bodyArcsInRange, arcsInRange, conditionsInRange, otherArcsMet, elementsMet, othersMet, otherArcsGiven, moreAsked};
+ghost use Rattle.query.specs.Conditions.{onlyWeekday, onlyArc, meets, weekdayMet, arcsGiven, givenArcs, inArc, inSome, inArcs, askedInRange, weekdaysInRange, arcInRange, bodyArcsInRange, arcsInRange, conditionsInRange, elementsMet};
 ghost use Rattle.query.specs.Query.{refusalOf};
+ghost use Rattle.query.specs.Parts.{otherArcsMet, othersMet};
 
 // The set of all seven weekdays.
 const EVERY_WEEKDAY: u32 = 127;
@@ -22,7 +25,8 @@ pub struct Asked {
     pub value: u32,
 }
 
-// The weekdays that will do, a bit for each, Monday's the lowest. Where they are not given, every weekday will do and `set` means nothing.
+// The weekdays that will do, a bit for each, Monday's the lowest. Where they are not given, every weekday will do and
+// `set` means nothing.
 pub struct Weekdays {
     pub given: bool,
     pub set: u32,
@@ -41,7 +45,8 @@ pub struct BodyArcs {
     pub second: Arc,
 }
 
-// Paper 01's reading: a first and a last day, both counted, paper 02's edition, by which the elements are reckoned, and the conditions; the arcs in the order of the bodies.
+// Paper 01's reading: a first and a last day, both counted, paper 02's edition, by which the elements are reckoned, and
+// the conditions; the arcs in the order of the bodies.
 pub struct Query {
     pub first: u32,
     pub last: u32,
@@ -51,13 +56,6 @@ pub struct Query {
     pub nakshatra: Asked,
     pub yoga: Asked,
     pub arcs: [BodyArcs; 9],
-}
-
-// What is asked beside the Sun's arcs and the weekdays: nothing, elements alone, or other bodies' arcs, with elements or without.
-pub enum More {
-    Nothing,
-    Elements,
-    Arcs,
 }
 
 impl Asked {
@@ -88,6 +86,16 @@ impl Asked {
     }
 }
 
+// The weekday of a day: the first three bits of the fraction of number / 7. The compiler makes a product and a shift of
+// it, where the remainder takes a division.
+fn weekday_of(number: u32) -> u32
+    requires { ⌜ number ≤ lastDay ⌝ }
+    ensures { λ r. ⌜ r ≡ weekdayOn number ⌝ }
+{
+    let sevenths = number as u64 * 613566757 % 4294967296;
+    (sevenths / 536870912) as u32
+}
+
 impl Weekdays {
     pub const NONE: Weekdays = Weekdays {
         given: false,
@@ -100,6 +108,20 @@ impl Weekdays {
     {
         let set = days::weekday_bit(weekday);
         Weekdays { given: true, set }
+    }
+
+    // Whether a day's weekday will do: any where none is asked for. Of a number that is no day none will.
+    pub fn admit(self, number: u32) -> bool
+        ensures { λ r. ⌜ r ≡ (leb number lastDay && weekdayMet self (weekdayOn number)) ⌝ }
+    {
+        if Day::LAST < number {
+            return false;
+        }
+        if self.given {
+            (self.set >> weekday_of(number)) % 2 == 1
+        } else {
+            true
+        }
     }
 
     fn in_range(self) -> bool
@@ -268,20 +290,6 @@ fn in_arcs(arcs: BodyArcs, body: Body, day: Day) -> bool
     }
 }
 
-fn other_arcs_given(arcs: [BodyArcs; 9]) -> bool
-    ensures { λ r. ⌜ r ≡ otherArcsGiven arcs ⌝ }
-{
-    let mut body = 1;
-    while body < 9 {
-        let of_body = arcs[body];
-        if of_body.given() {
-            return true;
-        }
-        body += 1;
-    }
-    false
-}
-
 // The arcs of all bodies but the Sun.
 fn other_arcs_met(arcs: [BodyArcs; 9], day: Day) -> bool
     requires { ⌜ inRange day ≡ true ⌝ }
@@ -311,7 +319,9 @@ fn other_arcs_met(arcs: [BodyArcs; 9], day: Day) -> bool
     in_arcs(arcs[8], Body::Saturn, day)
 }
 
-// Whether a day has the elements asked for. True longitudes take long to reckon: this is done only where an element is asked for, the Sun's only for a tithi or a yoga. A pair that is no day has none, nor has any day in what is no edition.
+// Whether a day has the elements asked for. True longitudes take long to reckon: this is done only where an element is
+// asked for, the Sun's only for a tithi or a yoga. A pair that is no day has none, nor has any day in what is no
+// edition.
 pub fn elements_met(edition: u32, tithi: Asked, nakshatra: Asked, yoga: Asked, day: Day) -> bool
     ensures { λ r. ⌜ r ≡ (isEdition edition && (inRange day && elementsMet edition tithi nakshatra yoga day)) ⌝ }
 {
@@ -348,7 +358,8 @@ fn nakshatra_met(asked: Asked, edition: u32, day: Day) -> bool
     }
 }
 
-// Whether a day meets all conditions beside the Sun's arcs and the weekdays: the other bodies' arcs, then the elements. A pair that is no day meets none, nor does any day those of a query without an edition.
+// Whether a day meets all conditions beside the Sun's arcs and the weekdays: the other bodies' arcs, then the elements.
+// A pair that is no day meets none, nor does any day those of a query without an edition.
 pub fn others_met(query: Query, pair: Day) -> bool
     ensures { λ r. ⌜ r ≡ othersMet query pair ⌝ }
 {
@@ -366,23 +377,4 @@ pub fn others_met(query: Query, pair: Day) -> bool
         query.yoga,
         pair,
     )
-}
-
-pub fn more_asked(query: Query) -> More
-    ensures { λ r. ⌜ r ≡ moreAsked query ⌝ }
-{
-    let arcs = query.arcs;
-    if other_arcs_given(arcs) {
-        return More::Arcs;
-    }
-    if query.tithi.given {
-        return More::Elements;
-    }
-    if query.nakshatra.given {
-        return More::Elements;
-    }
-    if query.yoga.given {
-        return More::Elements;
-    }
-    More::Nothing
 }

@@ -1,4 +1,5 @@
--- Inside the Sun's arcs and outside them: the walk's next day, case by case. What holds of the arcs that are given is said of each arc of a list, and shown by induction on it.
+-- Inside the Sun's arcs and outside them: the walk's next day, case by case. What holds of the arcs that are given is
+-- said of each arc of a list, and shown by induction on it.
 -- Assumes nothing.
 use Prim.Native.Nat.{ℕ, _+_, _*_, _-_, _/_, _≤_, _<_, min}
 use mathlib.Core.Path.{_≡_, refl, sym, _∙_}
@@ -15,10 +16,10 @@ use Rattle.query.specs.declared.BodyArcs.{BodyArcs}
 use Rattle.query.specs.Conditions.{givenArcs, arcsGiven, inArc, inSome, inArcs, nearestStart, arcInRange, bodyArcsInRange}
 use Rattle.query.specs.Query.{sunArcs}
 use Rattle.query.proofs.Accepted.{each-in-range}
-use Rattle.query.proofs.Conditions.{neither}
-use Rattle.search.specs.Look.{sunOn, sunInArcs, secondsAhead, nextDay}
+use Rattle.search.proofs.Others.{neither}
+use Rattle.search.specs.Look.{sunAdvance, sunOn, sunInArcs, secondsAhead, nextDay}
 use Rattle.search.specs.declared.Approach.{Approach}
-use Rattle.search.specs.Passes.{leadingArc, bothGiven, approachTo, Approached}
+use Rattle.search.specs.Parts.{leadingArc, bothGiven, approachTo, Approached}
 use Rattle.search.proofs.Circle.{past, past-low, past-grows, ahead-past}
 
 -- what holds of each arc of a list
@@ -78,7 +79,7 @@ nearest-ahead (a ∷ others) c d h =
     omega (arith, ahead-past (a .start) d (c .0 .start) (omega arith), past-low (a .start) d (omega (arith, c .0 .start)), nearest-ahead others (c .1) d (h .1))
 
 pub stays-outside :
-    (given : List Arc) → Each InCircle given → (d j : ℕ) → Each (Past d) given → 3549 * j < nearestStart given (sunOn d) → Each (Past (d + j)) given
+    (given : List Arc) → Each InCircle given → (d j : ℕ) → Each (Past d) given → sunAdvance * j < nearestStart given (sunOn d) → Each (Past (d + j)) given
 unfolding nearestStart Each
 stays-outside [] c d j h l = tt
 stays-outside (a ∷ others) c d j h l =
@@ -213,7 +214,7 @@ module _ (q : Query) (d : ℕ) where
   unfolding nextDay
   next-in e = rw e
 
-  pub next-out : sunInArcs q d ≡ false → nextDay q d ≡ d + (secondsAhead q d + 3548) / 3549
+  pub next-out : sunInArcs q d ≡ false → nextDay q d ≡ d + (secondsAhead q d + (sunAdvance - 1)) / sunAdvance
   unfolding nextDay
   next-out e = rw e
 

@@ -1,4 +1,5 @@
--- How far the mean Sun is past a point of the circle, and when it comes there again: made linear by counting the circles of the unrolled Sun.
+-- How far the mean Sun is past a point of the circle, and when it comes there again: made linear by counting the
+-- circles of the unrolled Sun.
 -- Assumes nothing.
 use Prim.Native.Nat.{ℕ, _+_, _*_, _-_, _/_, _%_, _≤_, _<_}
 use mathlib.Core.Path.{_≡_, ap, sym, _∙_}
@@ -8,7 +9,7 @@ use Rattle.longitudes.specs.Longitudes.{circle, differenceOf}
 use Rattle.longitudes.proofs.Sun.{unrolled, unrolled-reduced, days-most, mono}
 use Rattle.longitudes.proofs.Subtraction.{difference-law}
 use Rattle.longitudes.proofs.Table.{longitude-small}
-use Rattle.search.specs.Look.{sunOn}
+use Rattle.search.specs.Look.{sunAdvance, sunOn}
 
 -- the seconds that the mean Sun of day d is past s
 abbrev pub past : ℕ → ℕ → ℕ
@@ -36,6 +37,6 @@ pub ahead-past : (s d : ℕ) → s < circle → 0 < past s d → differenceOf s 
 ahead-past s d h k = omega (arith, difference-law s (sunOn d) (omega (arith, longitude-small 0 (pairAt d))), difference-law (sunOn d) s (omega arith), longitude-small 0 (pairAt d))
 
 -- until the Sun can be at s again, it is past s by no less than on day d
-pub past-grows : (s d j : ℕ) → s ≤ circle → 3549 * j < circle - past s d → past s d ≤ past s (d + j)
+pub past-grows : (s d j : ℕ) → s ≤ circle → sunAdvance * j < circle - past s d → past s d ≤ past s (d + j)
 past-grows s d j hs hj =
     omega (arith, days-most d j, mono d j, past-circles s d hs, past-circles s (d + j) hs, past-low s d hs, past-low s (d + j) hs)

@@ -1,10 +1,11 @@
--- The laws beside the search: the matching days and the visited days ascend strictly, so each stands once; a day is listed if and only if it is in the span
--- and meets the conditions; what is written to a list is read back; every matching day is visited. By induction on the days.
+-- The laws beside the search: the matching days and the visited days ascend strictly, so each stands once; a day is
+-- listed if and only if it is in the span and meets the conditions; what is written to a list is read back; every
+-- matching day is visited. By induction on the days.
 -- Assumes nothing.
 use Prim.Native.Nat.{ℕ, zero, suc, _≤_, _<_}
-use mathlib.Core.Path.{_≡_, refl}
+use mathlib.Core.Path.{_≡_, refl, ap, _∙_}
 use mathlib.Core.Bool.{Bool, true, false, cond, _&&_, false≢true}
-use mathlib.Core.List.{List}
+use mathlib.Core.List.{List, [], _∷_}
 use native.Mathlib.Omega.{arith}
 use native.Mathlib.Decide.{decLe}
 use lib.Dec.{leb, eqb}
@@ -17,7 +18,7 @@ use Rattle.query.specs.Conditions.{bodyArcsInRange}
 use Rattle.query.specs.Query.{sunArcs, conditionsMet, matches, refusalOf}
 use Rattle.panchanga.specs.TrueLongitudes.{isEdition}
 use Rattle.query.proofs.Accepted.{accepted-by}
-use Rattle.search.specs.Look.{nextDay, notExamined, examinedOf}
+use Rattle.search.specs.Look.{sunInArcs, nextDay, notExamined, examinedOf}
 use Rattle.search.specs.Days.{spanLength, span, matchingDays, visitedFrom, visitedDays}
 use Rattle.search.proofs.Arc.{next-after}
 use Rattle.entries.proofs.Laws.{entries-read}
@@ -77,7 +78,7 @@ looked-later q n r = go (isEdition (q .edition)) (leb n lastDay) (eqb (refusalOf
     go true false e h f r = absurd (omega arith)
     go false d e h f r = absurd (omega arith)
 
--- an entry of the list that was written is the day at that place of the matching days
+-- an entry of the list that was written is the matching day of that number
 pub listed-read :
     (q : Query) (l : List ℕ) (k : ℕ) →
     refusalOf q ≡ 0 →
@@ -88,7 +89,7 @@ listed-read q l k e room h =
     let n = listed-only q (getD (matchingDays q) k 0) (has-at k (matchingDays q) h) in
     entries-read (matchingDays q) l k room h (omega (arith, n .to-last, accepted-by q e .last))
 
--- the walk ends before its bound: a larger one gives the same days
+-- the scan ends before its bound: a larger one gives the same days
 pub bound-not-reached : (q : Query) (n : ℕ) → refusalOf q ≡ 0 → spanLength q ≤ n → visitedFrom q n (q .first) ≡ visitedDays q
 unfolding visitedDays
 bound-not-reached q n e h = bound q (accepted-by q e .sun) n (spanLength q) (q .first) h (omega arith)
@@ -110,3 +111,36 @@ module _ (q : Query) (r : bodyArcsInRange (sunArcs q) ≡ true) where
   -- every matching day is visited
   pub matching-are-visited : (x : ℕ) → Has x (matchingDays q) → Has x (visitedDays q)
   matching-are-visited x h = filtered-has (conditionsMet q) x (visitedDays q) (rw (matching-visited q r) h)
+
+-- the query in another edition
+abbrev pub inEdition : ℕ → Query → Query
+inEdition edition q =
+    record {
+      first = q .first;
+      last = q .last;
+      edition = edition;
+      weekdays = q .weekdays;
+      tithi = q .tithi;
+      nakshatra = q .nakshatra;
+      yoga = q .yoga;
+      arcs = q .arcs;
+    }
+
+-- THE SCAN IS THE SAME IN BOTH EDITIONS: it goes by the mean Sun, which no edition changes
+module _ (edition : ℕ) (q : Query) where
+  same-next : (d : ℕ) → nextDay (inEdition edition q) d ≡ nextDay q d
+  unfolding nextDay sunInArcs
+  same-next d = refl
+
+  same-from : (n d : ℕ) → visitedFrom (inEdition edition q) n d ≡ visitedFrom q n d
+  unfolding visitedFrom
+  same-from zero d = refl
+  same-from (suc n) d = go (leb d (q .last)) (same-from n (nextDay q d))
+    where
+      go : (b : Bool) → visitedFrom (inEdition edition q) n (nextDay q d) ≡ visitedFrom q n (nextDay q d) → _≡_ {A = List ℕ} (elim b [ true ↦ d ∷ visitedFrom (inEdition edition q) n (nextDay (inEdition edition q) d) | false ↦ [] ]) (elim b [ true ↦ d ∷ visitedFrom q n (nextDay q d) | false ↦ [] ])
+      go true ih = ap (λ (l : List ℕ). d ∷ l) (ap (visitedFrom (inEdition edition q) n) (same-next d) ∙ ih)
+      go false ih = refl
+
+  pub same-visits : visitedDays (inEdition edition q) ≡ visitedDays q
+  unfolding visitedDays
+  same-visits = same-from (spanLength q) (q .first)

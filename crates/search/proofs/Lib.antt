@@ -1,4 +1,5 @@
 pub mod Circle
+pub mod Others
 pub mod Arc
 pub mod Skip
 pub mod Look
@@ -7,4 +8,5 @@ pub mod Passes
 pub mod Answers
 pub mod Laws
 pub mod Spans
+pub mod PaperQuery
 pub mod Single

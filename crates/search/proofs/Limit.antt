@@ -1,6 +1,7 @@
--- How many days the scan visits: those with the Sun in one of its arcs, and outside them at most two for each time that the Sun passes a start, and two more; by induction on the visits.
--- A visit from outside is on the way to the nearest start. It is within 320 seconds of that start after one jump at the latest, and past it after the next. This is
--- shown over one start, and for the arcs together by counting the circles past all their starts.
+-- How many days the scan visits: those with the Sun in one of its arcs, and outside them at most two for each time that
+-- the Sun passes a start, and two more; by induction on the visits. A visit from outside is on the way to the nearest
+-- start. It is within 320 seconds of that start after one jump at the latest, and past it after the next. This is shown
+-- over one start, and for the arcs together by counting the circles past all their starts.
 -- Assumes nothing.
 use Prim.Native.Nat.{ℕ, zero, suc, _+_, _*_, _-_, _/_, _≤_, _<_, min}
 use mathlib.Core.Path.{_≡_, refl, ap, sym, _∙_}
@@ -19,7 +20,7 @@ use Rattle.query.specs.declared.BodyArcs.{BodyArcs}
 use Rattle.query.specs.declared.Query.{Query}
 use Rattle.query.specs.Conditions.{givenArcs, arcsGiven, nearestStart, bodyArcsInRange}
 use Rattle.query.specs.Query.{sunArcs}
-use Rattle.search.specs.Look.{sunOn, sunInArcs, secondsAhead, nextDay}
+use Rattle.search.specs.Look.{sunAdvance, sunOn, sunInArcs, secondsAhead, nextDay}
 use Rattle.search.specs.Days.{spanLength, span, visitedFrom, visitedDays, visitLimit}
 use Rattle.search.proofs.Circle.{past, circles, past-low, past-circles, ahead-past}
 use Rattle.search.proofs.Arc.{Each, InCircle, given-in-circle, Past, outside-each, each-outside, nearest-ahead, nearest-low, outside-given, given-decides, no-arcs, next-in, next-out}
@@ -36,7 +37,7 @@ circles-up s d e h = circles-of-sun s d e (omega (arith, mono d (e - d), unrolle
 circles-in : (s d e : ℕ) → d ≤ e → circles s e ≤ circles s d + (e + 1 - d) / 360 + 1
 unfolding circles
 circles-in s d e h =
-    let m : unrolled e ≤ unrolled d + 3549 * (e - d) = omega (arith, days-most d (e - d), unrolled-at {m = d + (e - d)} {n = e} (omega arith)) in
+    let m : unrolled e ≤ unrolled d + sunAdvance * (e - d) = omega (arith, days-most d (e - d), unrolled-at {m = d + (e - d)} {n = e} (omega arith)) in
     omega arith
 
 -- the days of a list that are outside the arcs
@@ -211,7 +212,7 @@ module _ (q : Query) (r : bodyArcsInRange (sunArcs q) ≡ true) where
   abbrev Onward : ℕ → ℕ → Type 0
   Onward d x = (passes given d + 1 ≤ passes given x) ⊎ ((sunInArcs q x ≡ false) × (secondsAhead q x ≤ 320))
 
-  onward : (d m : ℕ) → sunInArcs q d ≡ false → m ≡ (secondsAhead q d + 3548) / 3549 → Onward d (d + m)
+  onward : (d m : ℕ) → sunInArcs q d ≡ false → m ≡ (secondsAhead q d + (sunAdvance - 1)) / sunAdvance → Onward d (d + m)
   onward d m e w = go (pass-or-none given d (d + m) (omega arith))
     where
       f : (arcsGiven (sunArcs q) ≡ true) × Each (Past d) given
@@ -229,7 +230,7 @@ module _ (q : Query) (r : bodyArcsInRange (sunArcs q) ≡ true) where
       (d o x : ℕ) →
       d ≤ q .last →
       sunInArcs q d ≡ false →
-      x ≡ d + (secondsAhead q d + 3548) / 3549 →
+      x ≡ d + (secondsAhead q d + (sunAdvance - 1)) / sunAdvance →
       (x ≤ q .last → Few o x) →
       (q .last < x → o ≡ 0) →
       Few (suc o) d

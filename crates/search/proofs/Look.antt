@@ -1,4 +1,5 @@
--- What the look says of a day, by the outcomes of its tests: no such day, refused, the Sun outside its arcs, inside one, in the span and outside it.
+-- What the look says of a day, by the outcomes of its tests: refused, the Sun outside its arcs, inside one, a day
+-- outside the span.
 -- Assumes nothing.
 use mathlib.Core.Path.{_≡_, refl, ap, sym, _∙_}
 use mathlib.Core.Bool.{Bool, true, false, cond, not, _&&_, false≢true}
@@ -11,73 +12,94 @@ use Rattle.days.specs.Days.{lastDay, inRange, pairAt, weekdayOn}
 use Rattle.days.proofs.Laws.{pair-in-range}
 use Rattle.panchanga.specs.TrueLongitudes.{isEdition}
 use Rattle.query.specs.declared.Query.{Query}
-use Rattle.query.specs.declared.More.{More}
-use Rattle.query.specs.declared.More.the-variants.{Nothing, Elements}
 use Rattle.query.specs.Query.{sunArcs, conditionsMet, inSpan, matches, refusalOf}
-use Rattle.query.specs.Conditions.{weekdayMet, arcsGiven, queryElementsMet, othersMet, moreAsked}
+use Rattle.query.specs.Conditions.{weekdayMet, arcsGiven, queryElementsMet}
+use Rattle.query.specs.Parts.{othersMet}
 use Rattle.query.proofs.Accepted.{accepted-by, edition-refused, edition-accepted}
-use Rattle.query.proofs.Conditions.{weekday-not-met, others-decide, only-elements, elements-decide, no-more}
+use Rattle.query.proofs.Conditions.{weekday-not-met, others-decide}
 use Rattle.search.specs.declared.Approach.{Approach}
 use Rattle.search.specs.declared.Examined.{Examined}
-use Rattle.search.specs.Look.{sunOn, sunInArcs, nextDay, notExamined, examinedOf}
-use Rattle.search.specs.Passes.{Approached, examinedAnyDay}
+use Rattle.search.specs.declared.More.{More}
+use Rattle.search.specs.declared.More.the-variants.{Nothing, Elements}
+use Rattle.search.specs.Look.{sunAdvance, sunOn, sunInArcs, nextDay, notExamined, examinedOf}
+use Rattle.search.specs.Parts.{Approached, moreAsked}
+use Rattle.search.proofs.Others.{only-elements, elements-decide, no-more}
 use Rattle.search.proofs.Arc.{given-decides, next-in, next-out}
 use Rattle.search.proofs.Skip.{outside-unmatched}
 
 abbrev said : Bool → ℕ → Examined
 said matches next = record { refusal = 0; matches = matches; next = next }
 
--- day n, whose pair is d, has the Sun in one of its arcs, or no such arc is given
+-- day n, of the span of a query that is not refused, has the pair d, and the Sun in one of its arcs, or no such arc is
+-- given
 pub record Inside (q : Query) (n : ℕ) (d : Day) : Type 0 where
-  pub edition : isEdition (q .edition) ≡ true
+  pub accepts : refusalOf q ≡ 0
+  pub span : inSpan q n ≡ true
   pub low : n ≤ lastDay
   pub pair : d ≡ pairAt n
   pub sun : sunInArcs q n ≡ true
 
 module _ (q : Query) (n : ℕ) where
-  any-day : n ≤ lastDay → examinedAnyDay q n ≡ said (conditionsMet q n) (nextDay q n)
-  unfolding examinedAnyDay
-  any-day h = rw (le-leb n lastDay h)
+  in-span-low : inSpan q n ≡ true → n ≤ q .last
+  in-span-low s = leb-true n (q .last) (second (leb (q .first) n) s)
+    where
+      second : (a : Bool) {b : Bool} → (a && b) ≡ true → b ≡ true
+      second true s = s
+      second false s = absurd (false≢true s)
 
-  pub no-day : lastDay < n → notExamined 2 ≡ examinedAnyDay q n
-  unfolding examinedAnyDay
-  no-day h = rw (lt-leb n lastDay h)
+  -- a day of the span of a query that is not refused is one, and is not refused
+  module _ (e : refusalOf q ≡ 0) where
+    pub span-low : inSpan q n ≡ true → n ≤ lastDay
+    span-low s = omega (arith, in-span-low s, accepted-by q e .last)
+
+    pub examined-at : inSpan q n ≡ true → examinedOf q n ≡ said (conditionsMet q n) (nextDay q n)
+    unfolding examinedOf matches
+    examined-at s = rw (accepted-by q e .edition, le-leb n lastDay (span-low s), eq-eqb (refusalOf q) 0 e, s)
+
+    -- a day that is not of the span does not match
+    pub outside-span : n ≤ lastDay → inSpan q n ≡ false → said false (nextDay q n) ≡ examinedOf q n
+    unfolding examinedOf matches
+    outside-span h s = rw (accepted-by q e .edition, le-leb n lastDay h, eq-eqb (refusalOf q) 0 e, s)
 
   -- inside an arc, or without one: the next day
-  inside : (found : Bool) → n ≤ lastDay → sunInArcs q n ≡ true → conditionsMet q n ≡ found → said found (n + 1) ≡ examinedAnyDay q n
-  inside found h i m = rw (any-day h, m, next-in q n i)
+  inside : (d : Day) (found : Bool) → Inside q n d → conditionsMet q n ≡ found → said found (n + 1) ≡ examinedOf q n
+  inside d found i m = rw (examined-at (i .accepts) (i .span), m, next-in q n (i .sun))
 
   -- the tests that follow inside, in turn: the weekday, whether more is asked, and what more
-  module _ (d : Day) (i : Inside q n d) (weekday : Bool) (w : weekday ≡ weekdayMet (q .weekdays) (weekdayOn n)) where
-    pub by-weekday : not weekday ≡ true → said false (n + 1) ≡ examinedAnyDay q n
-    by-weekday f = inside false (i .low) (i .sun) (weekday-not-met q n (sym w ∙ not-true weekday f))
+  module _ (d : Day) (i : Inside q n d) (weekday : Bool) (w : weekday ≡ (leb n lastDay && weekdayMet (q .weekdays) (weekdayOn n))) where
+    tested : weekday ≡ weekdayMet (q .weekdays) (weekdayOn n)
+    tested = w ∙ rw (le-leb n lastDay (i .low))
 
-    by-others : (others : Bool) → not weekday ≡ false → othersMet q d ≡ others → said others (n + 1) ≡ examinedAnyDay q n
+    pub by-weekday : not weekday ≡ true → said false (n + 1) ≡ examinedOf q n
+    by-weekday f = inside d false i (weekday-not-met q n (sym tested ∙ not-true weekday f))
+
+    by-others : (others : Bool) → not weekday ≡ false → othersMet q d ≡ others → said others (n + 1) ≡ examinedOf q n
     by-others others t e =
-        inside others (i .low) (i .sun)
-        (others-decide q n (i .edition) (i .low) (unfold sunInArcs in i .sun) (sym w ∙ not-false weekday t) ∙ ap (othersMet q) (sym (i .pair)) ∙ e)
+        inside d others i
+        (others-decide q n (accepted-by q (i .accepts) .edition) (i .low) (unfold sunInArcs in i .sun) (sym tested ∙ not-false weekday t) ∙ ap (othersMet q) (sym (i .pair)) ∙ e)
 
-    pub by-no-more : (more : More) → not weekday ≡ false → more ≡ moreAsked q → more ≡ Nothing → said true (n + 1) ≡ examinedAnyDay q n
-    by-no-more more t e f = by-others true t (no-more q d (i .edition) (sym e ∙ f) (rw (i .pair) (pair-in-range n (i .low))))
+    pub by-no-more : (more : More) → not weekday ≡ false → more ≡ moreAsked q → more ≡ Nothing → said true (n + 1) ≡ examinedOf q n
+    by-no-more more t e f = by-others true t (no-more q d (accepted-by q (i .accepts) .edition) (sym e ∙ f) (rw (i .pair) (pair-in-range n (i .low))))
 
     -- with no arc of another body, the elements
-    pub by-elements : (more : More) (found : Bool) → not weekday ≡ false → more ≡ moreAsked q → more ≡ Elements → found ≡ (isEdition (q .edition) && (inRange d && queryElementsMet q d)) → said found (n + 1) ≡ examinedAnyDay q n
+    pub by-elements : (more : More) (found : Bool) → not weekday ≡ false → more ≡ moreAsked q → more ≡ Elements → found ≡ (isEdition (q .edition) && (inRange d && queryElementsMet q d)) → said found (n + 1) ≡ examinedOf q n
     by-elements more found t e f g = by-others found t (sym (g ∙ elements-decide q d (only-elements q (sym e ∙ f))))
 
-    pub by-more : (others : Bool) → not weekday ≡ false → others ≡ othersMet q d → said others (n + 1) ≡ examinedAnyDay q n
+    pub by-more : (others : Bool) → not weekday ≡ false → others ≡ othersMet q d → said others (n + 1) ≡ examinedOf q n
     by-more others t e = by-others others t (sym e)
 
   -- outside: no match, and the jump
   pub outside :
       (found : Approach) →
-      n ≤ lastDay →
+      refusalOf q ≡ 0 →
+      inSpan q n ≡ true →
       arcsGiven (sunArcs q) ≡ true →
       Approached (sunArcs q) (sunOn n) found →
       found .inside ≡ false →
-      said false (n + (found .ahead + 3548) / 3549) ≡ examinedAnyDay q n
-  outside found h g a i =
+      said false (n + (found .ahead + (sunAdvance - 1)) / sunAdvance) ≡ examinedOf q n
+  outside found e s g a i =
       let f = given-decides q n false g (sym (a .within) ∙ i) in
-      rw (any-day h, outside-unmatched q n f, next-out q n f, a .nearest i)
+      rw (examined-at e s, outside-unmatched q n f, next-out q n f, a .nearest i)
 
   -- refused: for the edition, for the day, and for what else the query is refused for
   module _ (refusal : ℕ) (e : refusal ≡ refusalOf q) where
@@ -92,28 +114,3 @@ module _ (q : Query) (n : ℕ) where
     pub refused-query : (refusal ≡ 14 → ⊥) → n ≤ lastDay → (refusal ≡ 0 → ⊥) → notExamined refusal ≡ examinedOf q n
     unfolding examinedOf
     refused-query f h z = rw (edition-accepted q (λ k. f (e ∙ k)), le-leb n lastDay h, ne-eqb (refusalOf q) 0 (λ k. z (e ∙ k)), e)
-
-  module _ (e : refusalOf q ≡ 0) where
-    in-span-low : inSpan q n ≡ true → n ≤ q .last
-    in-span-low s = leb-true n (q .last) (second (leb (q .first) n) s)
-      where
-        second : (a : Bool) {b : Bool} → (a && b) ≡ true → b ≡ true
-        second true s = s
-        second false s = absurd (false≢true s)
-
-    -- a day of the span
-    pub examined-at : inSpan q n ≡ true → examinedOf q n ≡ said (conditionsMet q n) (nextDay q n)
-    unfolding examinedOf matches
-    examined-at s = rw (accepted-by q e .edition, le-leb n lastDay (omega (arith, in-span-low s, accepted-by q e .last)), eq-eqb (refusalOf q) 0 e, s)
-
-    pub any-day-in-span : inSpan q n ≡ true → examinedAnyDay q n ≡ examinedOf q n
-    any-day-in-span s = any-day (omega (arith, in-span-low s, accepted-by q e .last)) ∙ sym (examined-at s)
-
-    -- a day that is not of the span
-    pub any-day-outside-span : inSpan q n ≡ false → record { refusal = examinedAnyDay q n .refusal; matches = false; next = examinedAnyDay q n .next } ≡ examinedOf q n
-    unfolding examinedAnyDay examinedOf matches
-    any-day-outside-span s = rw (accepted-by q e .edition, eq-eqb (refusalOf q) 0 e, s) (either (leb n lastDay))
-      where
-        either : (b : Bool) → record { refusal = cond b (said (conditionsMet q n) (nextDay q n)) (notExamined 2) .refusal; matches = false; next = cond b (said (conditionsMet q n) (nextDay q n)) (notExamined 2) .next } ≡ cond b (said false (nextDay q n)) (notExamined 2)
-        either true = refl
-        either false = refl

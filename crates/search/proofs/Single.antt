@@ -1,5 +1,6 @@
--- Old queries are listed alike: a set of one weekday and one arc of a body mean what a weekday and an arc meant in paper 01, so a query of one weekday and one
--- arc a body has the matching days, the visited days and the limit that it had. Each condition by its cases, the lists by induction. Assumes nothing.
+-- Old queries are listed alike: a set of one weekday and one arc of a body mean what a weekday and an arc meant in
+-- paper 01, so a query of one weekday and one arc a body is refused as it was, and has the matching days, the visited
+-- days and the limit that it had. Each condition by its cases, the lists by induction. Assumes nothing.
 use Prim.Native.Nat.{ℕ, zero, suc, _+_, min}
 use mathlib.Core.Path.{_≡_, refl, ap, _∙_}
 use mathlib.Core.Bool.{Bool, true, false, cond, _||_, or-false, and-true}
@@ -16,11 +17,11 @@ use Rattle.longitudes.proofs.Subtraction.{difference-small}
 use Rattle.query.specs.declared.Asked.{Asked}
 use Rattle.query.specs.declared.Arc.{Arc}
 use Rattle.query.specs.declared.BodyArcs.{BodyArcs}
-use Rattle.query.specs.Conditions.{noArc, noArcs, onlyArc, meets, weekdayMet, givenArcs, inArc, inSome, inArcs, nearestStart, bodyMet, arcsMet, askedInRange, weekdaysInRange, arcInRange, bodyArcsInRange}
-use Rattle.query.specs.Query.{conditionsMet}
-use Rattle.search.specs.Look.{sunOn, sunInArcs, nextDay}
+use Rattle.query.specs.Conditions.{noArc, noArcs, onlyArc, meets, weekdayMet, givenArcs, inArc, inSome, inArcs, nearestStart, bodyMet, arcsMet, askedInRange, weekdaysInRange, arcInRange, bodyArcsInRange, arcsInRange, conditionsInRange}
+use Rattle.query.specs.Query.{conditionsMet, refusalOf}
+use Rattle.search.specs.Look.{sunOn, sunInArcs, sunAdvance, nextDay}
 use Rattle.search.specs.Days.{spanLength, span, matchingDays, visitedFrom, visitedDays, visitLimit}
-use Rattle.search.specs.Single.{Single, setOf, queryOf, inSingleArc, singleArc, sunInSingle, singleMet, singleNext, singleVisits, singleLimit}
+use Rattle.search.proofs.PaperQuery.{Single, setOf, queryOf, inSingleArc, singleArc, sunInSingle, singleMet, singleNext, singleVisits, singleLimit, singleInRange, singleRefusal}
 
 -- THE LAW of one weekday, and of its range
 pub single-weekday : (a : Asked) (n : ℕ) → weekdayMet (setOf a) (weekdayOn n) ≡ meets a (weekdayOn n)
@@ -45,7 +46,7 @@ unfolding bodyArcsInRange arcInRange
 single-arc-range a = and-true (arcInRange a)
 
 -- from outside the one arc, its start is the nearest
-step : (a : Arc) (n : ℕ) → cond (inSingleArc a (sunOn n)) (n + 1) (n + roundedUp (nearestStart (givenArcs (onlyArc a)) (sunOn n)) 3549) ≡ cond (inSingleArc a (sunOn n)) (n + 1) (n + roundedUp (differenceOf (a .start) (sunOn n)) 3549)
+step : (a : Arc) (n : ℕ) → cond (inSingleArc a (sunOn n)) (n + 1) (n + roundedUp (nearestStart (givenArcs (onlyArc a)) (sunOn n)) sunAdvance) ≡ cond (inSingleArc a (sunOn n)) (n + 1) (n + roundedUp (differenceOf (a .start) (sunOn n)) sunAdvance)
 unfolding inSingleArc nearestStart givenArcs
 step a n = go (a .given)
   where
@@ -54,8 +55,8 @@ step a n = go (a .given)
 
     go :
         (g : Bool) →
-        cond (cond g (ltb (differenceOf (sunOn n) (a .start)) (a .width)) true) (n + 1) (n + roundedUp (nearestStart (cond g (a ∷ []) []) (sunOn n)) 3549)
-        ≡ cond (cond g (ltb (differenceOf (sunOn n) (a .start)) (a .width)) true) (n + 1) (n + roundedUp (differenceOf (a .start) (sunOn n)) 3549)
+        cond (cond g (ltb (differenceOf (sunOn n) (a .start)) (a .width)) true) (n + 1) (n + roundedUp (nearestStart (cond g (a ∷ []) []) (sunOn n)) sunAdvance)
+        ≡ cond (cond g (ltb (differenceOf (sunOn n) (a .start)) (a .width)) true) (n + 1) (n + roundedUp (differenceOf (a .start) (sunOn n)) sunAdvance)
     go true = rw near
     go false = refl
 
@@ -70,6 +71,15 @@ module _ (s : Single) where
   body-met : (body n : ℕ) → bodyMet (map onlyArc (s .arcs)) (pairAt n) body ≡ inSingleArc (singleArc s body) (longitudeAt body (pairAt n))
   body-met body n = ap (λ (a : BodyArcs). inArcs a (longitudeAt body (pairAt n))) (arc-at body) ∙ single-arc (singleArc s body) (longitudeAt body (pairAt n))
 
+  range-at : (body : ℕ) → bodyArcsInRange (getD (map onlyArc (s .arcs)) body noArcs) ≡ arcInRange (singleArc s body)
+  range-at body = ap bodyArcsInRange (arc-at body) ∙ single-arc-range (singleArc s body)
+
+  -- OLD QUERIES ARE REFUSED ALIKE, as paper 01 refuses them
+  pub single-refusal : refusalOf (queryOf s) ≡ singleRefusal s
+  unfolding refusalOf conditionsInRange arcsInRange singleRefusal singleInRange
+  single-refusal =
+      rw (single-weekday-range (s .weekday), range-at 0, range-at 1, range-at 2, range-at 3, range-at 4, range-at 5, range-at 6, range-at 7, range-at 8)
+
   -- a day meets the conditions as it did
   pub single-met : (n : ℕ) → conditionsMet (queryOf s) n ≡ singleMet s n
   unfolding conditionsMet arcsMet singleMet
@@ -80,7 +90,7 @@ module _ (s : Single) where
   unfolding sunInArcs
   sun-in n = body-met 0 n
 
-  -- the walk goes on as it did
+  -- the scan goes on as it did
   pub single-next : (n : ℕ) → nextDay (queryOf s) n ≡ singleNext s n
   unfolding nextDay singleNext
   single-next n = rw (sun-in n, arc-at 0) (step (singleArc s 0) n)

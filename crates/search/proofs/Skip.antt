@@ -1,4 +1,5 @@
--- The scan passes over no day with the Sun in one of its arcs, so filtering the visited days filters the span; by induction on the days left.
+-- The scan passes over no day with the Sun in one of its arcs, so filtering the visited days filters the span; by
+-- induction on the days left.
 -- Assumes nothing.
 use Prim.Native.Nat.{ℕ, zero, suc, _+_, _-_, _≤_, _<_}
 use mathlib.Core.Path.{_≡_, refl, ap, sym, _∙_}

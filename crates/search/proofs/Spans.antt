@@ -1,5 +1,5 @@
--- The parts of a span: the matching days of parts that adjoin, put together, are those of the whole, by a filter over lists that are joined; and
--- no part of a query that is not refused is refused. Assumes nothing.
+-- The parts of a span: the matching days of parts that adjoin, put together, are those of the whole, by a filter over
+-- lists that are joined; and no part of a query that is not refused is refused. Assumes nothing.
 use Prim.Native.Nat.{ℕ, _+_, _-_, _≤_}
 use mathlib.Core.Path.{_≡_, refl, ap, ap₂, sym, _∙_}
 use mathlib.Core.Bool.{true}
@@ -36,7 +36,8 @@ module _ (q : Query) where
   pub no-days : (a : ℕ) → matchingDays (between q (a + 1) a) ≡ []
   no-days a = let none : a + 1 - (a + 1) ≡ 0 = omega arith in matching-between (a + 1) a ∙ ap (λ (n : ℕ). filtered (conditionsMet q) (daysFrom (a + 1) n)) none ∙ (unfold filtered daysFrom in refl)
 
-  -- the lists of the parts that end with the days of `ends`, one after another, and of what is left of the span behind them
+  -- the lists of the parts that end with the days of `ends`, one after another, and of what is left of the span behind
+  -- them
   pub listsOfParts : ℕ → List ℕ → List ℕ
   listsOfParts a [] = matchingDays (between q a (q .last))
   listsOfParts a (e ∷ ends) = matchingDays (between q a e) ++ listsOfParts (e + 1) ends

@@ -23,18 +23,20 @@ span q = daysFrom (q .first) (spanLength q)
 unfoldable pub matchingDays : Query → List ℕ
 matchingDays q = filtered (conditionsMet q) (span q)
 
--- the days that the walk takes from day d on, at most n of them
+-- the days that the scan visits from day d on, at most n of them
 unfoldable pub visitedFrom : Query → ℕ → ℕ → List ℕ
 visitedFrom q zero d = []
 visitedFrom q (suc n) d = elim (leb d (q .last)) [ true ↦ d ∷ visitedFrom q n (nextDay q d) | false ↦ [] ]
 
--- paper 01's walk: from the first day, each time to the next day, until past the last. Their number is that of the days looked at.
--- The bound, a visit for each day of the span, is there for the definition to end, and no walk comes to it: with a larger one the days are
--- the same, for every query that is not refused (the law `bound-not-reached`)
+-- the visited days, paper 01's walk: from the first day, each time to the next day, until past the last. Their number
+-- is that of the days looked at. The bound, a visit for each day of the span, is there for the definition to end, and
+-- no scan comes to it: with a larger one the days are the same, for every query that is not refused (the law
+-- `bound-not-reached`)
 unfoldable pub visitedDays : Query → List ℕ
 visitedDays q = visitedFrom q (spanLength q) (q .first)
 
--- the days of the span with the mean Sun in one of its arcs, plus for each arc that is given four, and two for each whole 360 days of the span: with two arcs
--- eight and four. Where none is given the Sun may stand anywhere, and these are all days of the span
+-- the days of the span with the mean Sun in one of its arcs, plus for each arc that is given four, and two for each
+-- whole 360 days of the span: with two arcs eight and four. Where none is given the Sun may stand anywhere, and these
+-- are all days of the span
 unfoldable pub visitLimit : Query → ℕ
 visitLimit q = length (filtered (sunInArcs q) (span q)) + length (givenArcs (sunArcs q)) * (4 + 2 * (spanLength q / 360))

@@ -1,6 +1,5 @@
 pub mod Look
 pub mod Days
 pub mod Search
-pub mod Passes
+pub mod Parts
 pub mod Spans
-pub mod Single

@@ -1,4 +1,4 @@
--- What is said of a day, and which day the walk takes after it.
+-- What the look says of a day: whether it matches, and which day the scan visits next.
 -- Assumes nothing.
 use mathlib.Core.Bool.{Bool, false, cond}
 use Prim.Native.Nat.{ℕ, _+_}
@@ -21,19 +21,26 @@ sunOn n = longitudeAt 0 (pairAt n)
 unfoldable pub sunInArcs : Query → ℕ → Bool
 sunInArcs q n = inArcs (sunArcs q) (sunOn n)
 
--- the seconds forward from day n's mean Sun to the nearer start of the Sun's arcs that are given: paper 01's g, as paper 02's L9 measures it
+-- the seconds forward from day n's mean Sun to the nearer start of the Sun's arcs that are given: paper 01's g, as
+-- paper 02's L9 measures it
 abbrev pub secondsAhead : Query → ℕ → ℕ
 secondsAhead q n = nearestStart (givenArcs (sunArcs q)) (sunOn n)
 
--- the day that the walk takes after day n: the next one, or from outside the arcs the one g / 3549, rounded up, later
+-- the most that the mean Sun advances in a day, in seconds of arc (the law `days-most` of longitudes)
+abbrev pub sunAdvance : ℕ
+sunAdvance = 3549
+
+-- the day that the scan (paper 01's walk) visits after day n: the next one, or from outside the arcs the one g / 3549,
+-- rounded up, later
 unfoldable pub nextDay : Query → ℕ → ℕ
-nextDay q n = cond (sunInArcs q n) (n + 1) (n + roundedUp (secondsAhead q n) 3549)
+nextDay q n = cond (sunInArcs q n) (n + 1) (n + roundedUp (secondsAhead q n) sunAdvance)
 
 -- a refused look: all zeros
 abbrev pub notExamined : ℕ → Examined
 notExamined refusal = record { refusal = refusal; matches = false; next = 0 }
 
--- paper 01's look at day n: refused for the query's edition, where n is no day, or where the search refuses the query; else whether the day fits, and the day that the walk takes next
+-- paper 01's look at day n: refused for the query's edition, where n is no day, or where the search refuses the query;
+-- else whether the day matches, and the day that the scan visits next
 unfoldable pub examinedOf : Query → ℕ → Examined
 examinedOf q n =
     cond (isEdition (q .edition))

@@ -13,8 +13,8 @@ use Rattle.query.specs.Query.{refusalOf}
 use Rattle.search.specs.declared.Found.{Found}
 use Rattle.search.specs.Days.{matchingDays, visitedDays, visitLimit}
 
--- the result for a list of so many entries: 7 where the query is not refused and the lent room does not suffice. It suffices where the
--- list has at least as many entries as there are matching days
+-- the result for a list of so many entries: 7 where the query is not refused and the lent room does not suffice. It
+-- suffices where the list has at least as many entries as there are matching days
 unfoldable pub resultOf : Query → ℕ → ℕ
 resultOf q room = cond (eqb (refusalOf q) accepted) (cond (leb (length (matchingDays q)) room) accepted listTooShort) (refusalOf q)
 

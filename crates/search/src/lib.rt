@@ -1,25 +1,25 @@
-// The search: every day that matches a query, written to a list of bytes, or nothing; and the look that it goes by.
+// The search: every day that matches a query, written to a list of bytes, or nothing; and the look, by which it
+// examines a day.
 use days::Day;
 use days::refusal;
 use longitudes::Body;
 use longitudes::CIRCLE;
 use query::Arc;
 use query::BodyArcs;
-use query::More;
 use query::Query;
-use query::Weekdays;
 ghost use mathlib.Core.Path.{_≡_};
 ghost use mathlib.Core.Bool.{true};
 ghost use Prim.Native.Nat.{_+_, _≤_};
 ghost use lib.ListN.{length, drop};
-ghost use Rattle.days.specs.Days.{lastDay, weekdayOn};
+ghost use Rattle.days.specs.Days.{lastDay};
 ghost use Rattle.entries.specs.Entries.{capacity, withEntriesFrom};
-ghost use Rattle.query.specs.Conditions.{weekdayMet, arcsGiven, bodyArcsInRange};
+ghost use Rattle.query.specs.Conditions.{arcsGiven, bodyArcsInRange};
 ghost use Rattle.query.specs.Query.{inSpan, refusalOf};
 ghost use Rattle.search.specs.Look.{notExamined, examinedOf};
 ghost use Rattle.search.specs.Days.{matchingDays};
 ghost use Rattle.search.specs.Search.{Measured, Searched};
-ghost use Rattle.search.specs.Passes.{leadingArc, bothGiven, approachTo, Approached, examinedAnyDay, VisitAt, firstPlace, placeAfter, Scannable, Tallied};
+ghost use Rattle.search.specs.Spans.{between};
+ghost use Rattle.search.specs.Parts.{otherArcsGiven, moreAsked, leadingArc, bothGiven, approachTo, Approached, VisitAt, firstVisit, visitAfter, kept, Scannable, Tallied};
 
 // The most that the mean Sun advances in a day, in seconds of arc.
 const SUN_ADVANCE: u32 = 3549;
@@ -29,7 +29,7 @@ const KEPT: usize = 176;
 
 const KEPT_BYTES: usize = entries::ENTRY_BYTES * KEPT;
 
-// Whether a day matches, and the day that the walk takes next.
+// Whether a day matches, and the day that the scan visits next.
 pub struct Examined {
     pub refusal: u32,
     pub matches: bool,
@@ -49,18 +49,27 @@ struct Approach {
     ahead: u32,
 }
 
-// Where a pass is: the day to examine, and how many were examined before it.
-struct Place {
+// A day that the scan visits, and how many were examined before it.
+struct Visit {
     day: u32,
     examined: u32,
 }
 
-// What one pass over the visited days finds; `latest` is the last day that matched, or the day that it began with, and `resume` the place after the last day that was put into the output.
+// What one pass over the visited days finds; `latest` is the last day that matched, or the day that it began with, and
+// `resume` the visit behind the last day that was put into the output.
 struct Tally {
     length: u32,
     examined: u32,
     latest: u32,
-    resume: Place,
+    resume: Visit,
+}
+
+// What is asked beside the Sun's arcs and the weekdays: nothing, elements alone, or other bodies' arcs, with elements
+// or without.
+enum More {
+    Nothing,
+    Elements,
+    Arcs,
 }
 
 impl Examined {
@@ -107,24 +116,37 @@ impl Found {
     }
 }
 
-// The weekday of a day: the first three bits of the fraction of number / 7. The compiler makes a product and a shift of it, where the remainder takes a division.
-fn weekday_of(number: u32) -> u32
-    requires { ⌜ number ≤ lastDay ⌝ }
-    ensures { λ r. ⌜ r ≡ weekdayOn number ⌝ }
+fn more_asked(query: Query) -> More
+    ensures { λ r. ⌜ r ≡ moreAsked query ⌝ }
 {
-    let sevenths = number as u64 * 613566757 % 4294967296;
-    (sevenths / 536870912) as u32
+    let arcs = query.arcs;
+    if other_arcs_given(arcs) {
+        return More::Arcs;
+    }
+    if query.tithi.given {
+        return More::Elements;
+    }
+    if query.nakshatra.given {
+        return More::Elements;
+    }
+    if query.yoga.given {
+        return More::Elements;
+    }
+    More::Nothing
 }
 
-fn weekday_met(asked: Weekdays, number: u32) -> bool
-    requires { ⌜ number ≤ lastDay ⌝ }
-    ensures { λ r. ⌜ r ≡ weekdayMet asked (weekdayOn number) ⌝ }
+fn other_arcs_given(arcs: [BodyArcs; 9]) -> bool
+    ensures { λ r. ⌜ r ≡ otherArcsGiven arcs ⌝ }
 {
-    if asked.given {
-        (asked.set >> weekday_of(number)) % 2 == 1
-    } else {
-        true
+    let mut body = 1;
+    while body < 9 {
+        let of_body = arcs[body];
+        if of_body.given() {
+            return true;
+        }
+        body += 1;
     }
+    false
 }
 
 // Of the arcs the first that is given, or the second.
@@ -188,23 +210,31 @@ fn nearer(arcs: BodyArcs, longitude: u32) -> Approach
     }
 }
 
-// The look at a day, in the span or not: the only way to longitudes and conditions. It reckons them for the day given and for no other. The Sun's arcs come first, since they
-// decide the next day, then the weekday where it decides. (The calls of `others_met` are two, so that the compiler leaves it out of the scan's loop: most days do not come to it. Where
-// no other body has an arc, the elements alone are handed on: a whole query is copied field by field.)
-fn examine_any_day(query: Query, day: u32) -> Examined
+// Paper 01's look: whether a visited day matches, and the day that the scan visits next. It is the search's only way to
+// longitudes and conditions, and by what it requires the day is the one whose turn it is; it reckons them for that day
+// and for no other. The Sun's arcs come first, since they decide the next day, then the weekday, then what else is
+// asked, which may be nothing. (That the day is one at all it tests so that the compiler reckons in 32 bits. What
+// decides a day with the Sun in its arcs stands twice: once, behind an `if` for the Sun, it makes a sparse search take
+// a tenth more time and a dense one a fifth, since the compiler then puts `others_met`, to which most days do not come,
+// into the scan's loop. Where no other body has an arc, the elements alone are handed on: a whole query is copied field
+// by field.)
+fn examine_day(query: Query, visit: Visit) -> Examined
     requires { ⌜ refusalOf query ≡ 0 ⌝ }
-    ensures { λ r. ⌜ r ≡ examinedAnyDay query day ⌝ }
+    requires { ⌜ inSpan query (visit .day) ≡ true ⌝ }
+    requires { ⌜ VisitAt query (visit .examined) (visit .day) ⌝ }
+    ensures { λ r. ⌜ r ≡ examinedOf query (visit .day) ⌝ }
 {
-    let found = Day::from_number(day);
-    if found.refusal != refusal::NONE {
-        return Examined::refused(found.refusal);
+    let day = visit.day;
+    let there = Day::from_number(day);
+    if there.refusal != refusal::NONE {
+        return Examined::refused(there.refusal);
     }
-    let pair = found.day;
-    let asked = query.weekdays;
-    let more = query::more_asked(query);
+    let pair = there.day;
+    let weekdays = query.weekdays;
+    let more = more_asked(query);
     let arcs = query.arcs[0];
     if !arcs.given() {
-        if !weekday_met(asked, day) {
+        if !weekdays.admit(day) {
             return Examined::accepted(false, day + 1);
         }
         return match more {
@@ -223,9 +253,9 @@ fn examine_any_day(query: Query, day: u32) -> Examined
         };
     }
     let sun = longitudes::mean_longitude(Body::Sun, pair);
-    let found = nearer(arcs, sun.seconds);
-    if found.inside {
-        if !weekday_met(asked, day) {
+    let approach = nearer(arcs, sun.seconds);
+    if approach.inside {
+        if !weekdays.admit(day) {
             return Examined::accepted(false, day + 1);
         }
         return match more {
@@ -243,7 +273,30 @@ fn examine_any_day(query: Query, day: u32) -> Examined
             More::Arcs => Examined::accepted(query::others_met(query, pair), day + 1),
         };
     }
-    Examined::accepted(false, day + (found.ahead + (SUN_ADVANCE - 1)) / SUN_ADVANCE)
+    Examined::accepted(
+        false,
+        day + (approach.ahead + (SUN_ADVANCE - 1)) / SUN_ADVANCE,
+    )
+}
+
+// The step to the next visit: the day handed back, with one more examined before it.
+fn next_visit(visit: Visit, seen: Examined) -> Visit
+    requires { ⌜ visit .examined ≤ lastDay ⌝ }
+    ensures { λ r. ⌜ r ≡ visitAfter visit (seen .next) ⌝ }
+{
+    Visit {
+        day: seen.next,
+        examined: visit.examined + 1,
+    }
+}
+
+fn first_visit(query: Query) -> Visit
+    ensures { λ r. ⌜ r ≡ firstVisit query ⌝ }
+{
+    Visit {
+        day: query.first,
+        examined: 0,
+    }
 }
 
 fn in_span(query: Query, day: u32) -> bool
@@ -256,22 +309,46 @@ fn in_span(query: Query, day: u32) -> bool
     }
 }
 
-// Paper 01's look: whether a day is one of the span that meets all conditions, and the day that the walk takes next. It is refused as the search is.
+// The query over one day alone.
+fn over_day(query: Query, day: u32) -> Query
+    ensures { λ r. ⌜ r ≡ between query day day ⌝ }
+{
+    let weekdays = query.weekdays;
+    let tithi = query.tithi;
+    let nakshatra = query.nakshatra;
+    let yoga = query.yoga;
+    let arcs = query.arcs;
+    Query {
+        first: day,
+        last: day,
+        edition: query.edition,
+        weekdays,
+        tithi,
+        nakshatra,
+        yoga,
+        arcs,
+    }
+}
+
+// What the look says of any day, for any query: the day is examined as the only one of a span, and matches where it is
+// of the query's own. It is refused as the search is; a day that is none comes before what the query is refused for,
+// but for its edition.
 pub fn examine(query: Query, day: u32) -> Examined
     ensures { λ r. ⌜ r ≡ examinedOf query day ⌝ }
 {
     let refusal = query.refusal();
+    if refusal == refusal::BAD_EDITION {
+        return Examined::refused(refusal::BAD_EDITION);
+    }
+    if Day::LAST < day {
+        return Examined::refused(refusal::OUT_OF_RANGE);
+    }
     if refusal != refusal::NONE {
-        // A day that is none comes before what the query is refused for, but for its edition.
-        if refusal == refusal::BAD_EDITION {
-            return Examined::refused(refusal::BAD_EDITION);
-        }
-        if Day::LAST < day {
-            return Examined::refused(refusal::OUT_OF_RANGE);
-        }
         return Examined::refused(refusal);
     }
-    let seen = examine_any_day(query, day);
+    let alone = over_day(query, day);
+    let visit = first_visit(alone);
+    let seen = examine_day(alone, visit);
     if in_span(query, day) {
         return seen;
     }
@@ -282,65 +359,35 @@ pub fn examine(query: Query, day: u32) -> Examined
     }
 }
 
-// The search's only way to examine a day. By what it requires, that is the day whose turn it is in paper 01's walk and no other.
-fn visit(query: Query, place: Place) -> Examined
-    requires { ⌜ refusalOf query ≡ 0 ⌝ }
-    requires { ⌜ inSpan query (place .day) ≡ true ⌝ }
-    requires { ⌜ VisitAt query (place .examined) (place .day) ⌝ }
-    ensures { λ r. ⌜ r ≡ examinedOf query (place .day) ⌝ }
-{
-    examine_any_day(query, place.day)
-}
-
-// The place after a visit: the day handed back, with one more examined before it.
-fn next_place(place: Place, seen: Examined) -> Place
-    requires { ⌜ place .examined ≤ lastDay ⌝ }
-    ensures { λ r. ⌜ r ≡ placeAfter place (seen .next) ⌝ }
-{
-    Place {
-        day: seen.next,
-        examined: place.examined + 1,
-    }
-}
-
-fn first_place(query: Query) -> Place
-    ensures { λ r. ⌜ r ≡ firstPlace query ⌝ }
-{
-    Place {
-        day: query.first,
-        examined: 0,
-    }
-}
-
-// One pass over the visited days, from a place up to day `until`: it counts the matching days, of which there were `count` before that place, and puts as many of
-// them into the output as it has entries.
-fn scan(query: Query, start: Place, count: u32, until: u32, output: &mut [u8]) -> Tally
+// One pass over the visited days, from one of them up to day `until`: it counts the matching days, of which there were
+// `count` before it, and puts as many of them into the output as it has entries.
+fn scan(query: Query, start: Visit, count: u32, until: u32, output: &mut [u8]) -> Tally
     requires { ⌜ Scannable query start count until (capacity (now output)) ⌝ }
     ensures { λ t. ⌜ Tallied query start until (capacity (now (output .entry))) t ⌝ }
     ensures { λ _. ⌜ now (output .exit) ≡ withEntriesFrom (now (output .entry)) count (drop count (matchingDays query)) ⌝ }
 {
     let room = output.len() / entries::ENTRY_BYTES;
-    let mut place = start;
+    let mut visit = start;
     let mut length = count;
     let mut latest = start.day;
     let mut resume = start;
-    while place.day <= until {
-        let seen = visit(query, place);
-        let next = next_place(place, seen);
+    while visit.day <= until {
+        let seen = examine_day(query, visit);
+        let next = next_visit(visit, seen);
         if seen.matches {
             let index = length as usize;
-            entries::put_entry(output, index, place.day);
+            entries::put_entry(output, index, visit.day);
             length += 1;
-            latest = place.day;
+            latest = visit.day;
             if index < room {
                 resume = next;
             }
         }
-        place = next;
+        visit = next;
     }
     Tally {
         length,
-        examined: place.examined,
+        examined: visit.examined,
         latest,
         resume,
     }
@@ -355,25 +402,27 @@ pub fn measure(query: Query) -> Found
         return Found::refused(refusal);
     }
     let mut none = [0u8; 0];
-    let start = first_place(query);
+    let start = first_visit(query);
     let tally = scan(query, start, 0, query.last, &mut none);
     Found::counted(refusal::NONE, tally)
 }
 
-// The second pass, for the matching days behind those that the first one kept: it goes on from the place after the last of these, up to the last match. Each day is counted once, so the numbers
-// handed back are the first pass's.
+// The second pass, for the matching days behind those that the first one kept: it goes on from the visit behind the
+// last of these, up to the last match. Each day is counted once, so the numbers handed back are the first pass's.
 fn write_rest(query: Query, counted: Tally, list: &mut [u8]) -> Found
-    requires { ⌜ Scannable query (counted .resume) 176 (counted .latest) (capacity (now list)) ⌝ }
+    requires { ⌜ Scannable query (counted .resume) kept (counted .latest) (capacity (now list)) ⌝ }
     ensures { λ f. ⌜ f ≡ record { refusal = 0; length = counted .length; examined = counted .examined } ⌝ }
-    ensures { λ _. ⌜ now (list .exit) ≡ withEntriesFrom (now (list .entry)) 176 (drop 176 (matchingDays query)) ⌝ }
+    ensures { λ _. ⌜ now (list .exit) ≡ withEntriesFrom (now (list .entry)) kept (drop kept (matchingDays query)) ⌝ }
 {
     let resume = counted.resume;
     scan(query, resume, KEPT as u32, counted.latest, list);
     Found::counted(refusal::NONE, counted)
 }
 
-// Writes the matching days to the list, earliest first, or leaves it as it was. Where the list has an entry for each day of the span, whatever matches fits, and one pass counts and writes; else the
-// first ones are kept beside it until it is known whether all fit. (This is one function, since each call that hands the query on has a copy of it on the stack.)
+// Writes the matching days to the list, earliest first, or leaves it as it was. Where the list has an entry for each
+// day of the span, whatever matches fits, and one pass counts and writes; else the first ones are kept beside it until
+// it is known whether all fit. (This is one function, since each call that hands the query on has a copy of it on the
+// stack.)
 pub fn search(query: Query, list: &mut [u8]) -> Found
     ensures { λ f. ⌜ Searched query (now (list .entry)) f (now (list .exit)) ⌝ }
 {
@@ -383,7 +432,7 @@ pub fn search(query: Query, list: &mut [u8]) -> Found
     }
     let capacity = list.len() / entries::ENTRY_BYTES;
     let days_less_one = (query.last - query.first) as usize;
-    let start = first_place(query);
+    let start = first_visit(query);
     if days_less_one < capacity {
         let tally = scan(query, start, 0, query.last, list);
         return Found::counted(refusal::NONE, tally);

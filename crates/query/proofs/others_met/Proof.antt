@@ -5,7 +5,7 @@ use mathlib.Core.Bool.{true, and-false}
 use mathlib.Core.Path.{_≡_, sym, _∙_}
 use Rattle.days.specs.Days.{inRange}
 use Rattle.panchanga.specs.TrueLongitudes.{isEdition}
-use Rattle.query.specs.Conditions.{othersMet}
+use Rattle.query.specs.Parts.{othersMet}
 use Rattle.query.proofs.others_met.Statement.{statement}
 use Rattle.query.proofs.others_met.Tie as tie
 

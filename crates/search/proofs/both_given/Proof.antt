@@ -1,5 +1,5 @@
 -- `both_given` meets its contract: the first decides, then the second.
-use Rattle.search.specs.Passes.{bothGiven}
+use Rattle.search.specs.Parts.{bothGiven}
 use Rattle.search.proofs.both_given.Statement.{statement}
 use Rattle.search.proofs.both_given.Tie as tie
 

@@ -1,5 +1,5 @@
 -- `leading` meets its contract: the first where it is given, else the second.
-use Rattle.search.specs.Passes.{leadingArc}
+use Rattle.search.specs.Parts.{leadingArc}
 use Rattle.search.proofs.leading.Statement.{statement}
 use Rattle.search.proofs.leading.Tie as tie
 

@@ -15,14 +15,14 @@ refused-requires c κs = search needs
 returns : tie.Need-returns
 returns c = rw (c .refused .ensures) (measured-refused _ _ (c .before .before .refusal .ensures) (c .before .if1 .taken))
 
-first-place-requires : tie.Need-first-place-requires
-first-place-requires c κs = search needs
+first-visit-requires : tie.Need-first-visit-requires
+first-visit-requires c κs = search needs
 
 slice-aggregate-scan : tie.Need-slice-aggregate-scan
 slice-aggregate-scan c = search needs
 
 scan-requires : tie.Need-scan-requires
-scan-requires c κs = scannable-first _ _ _ (sym (c .before .before .before .refusal .ensures) ∙ c .before .before .if1 .left) (c .before .first-place .ensures)
+scan-requires c κs = scannable-first _ _ _ (sym (c .before .before .before .refusal .ensures) ∙ c .before .before .if1 .left) (c .before .first-visit .ensures)
 
 counted-requires : tie.Need-counted-requires
 counted-requires c κs = search needs
@@ -40,7 +40,7 @@ measure-spec =
     refusal-requires
     refused-requires
     returns
-    first-place-requires
+    first-visit-requires
     slice-aggregate-scan
     scan-requires
     counted-requires

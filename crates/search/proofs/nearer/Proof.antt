@@ -3,7 +3,7 @@ use mathlib.Core.Path.{_≡_, sym, ap, _∙_}
 use borrow.Author.Needs.{needs}
 use borrow.Author.Tests.{not-true, not-false}
 use Rattle.query.specs.declared.Arc.{Arc}
-use Rattle.search.specs.Passes.{leadingArc, approachTo}
+use Rattle.search.specs.Parts.{leadingArc, approachTo}
 use Rattle.search.proofs.Arc.{in-first, one-given, in-second, second-nearer, first-nearer}
 use Rattle.search.proofs.nearer.Statement.{statement}
 use Rattle.search.proofs.nearer.Tie as tie

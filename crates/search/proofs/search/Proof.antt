@@ -1,4 +1,5 @@
--- `search` meets its contract: refused; an entry for each day, so that one pass suffices; too many; all of them kept and copied; or the first ones copied and the others put by a second pass.
+-- `search` meets its contract: refused; an entry for each day, so that one pass suffices; too many; all of them kept
+-- and copied; or the first ones copied and the others put by a second pass.
 use borrow.Author.Needs.{needs}
 use mathlib.Core.Path.{_≡_, refl, sym, ap, _∙_}
 use native.Mathlib.Omega.{arith}
@@ -30,11 +31,11 @@ sub-days-less-one c = omega (arith, accepted-by _ (accepted (c .before)) .first)
 cast-days-less-one : tie.Need-cast-days-less-one
 cast-days-less-one c = search needs
 
-first-place-requires : tie.Need-first-place-requires
-first-place-requires c κs = search needs
+first-visit-requires : tie.Need-first-visit-requires
+first-visit-requires c κs = search needs
 
 scan-requires : tie.Need-scan-requires
-scan-requires c κs = scannable-first _ _ _ (accepted (c .before .before .before .before)) (c .before .before .first-place .ensures)
+scan-requires c κs = scannable-first _ _ _ (accepted (c .before .before .before .before)) (c .before .before .first-visit .ensures)
 
 counted-requires : tie.Need-counted-requires
 counted-requires c κs = search needs
@@ -54,7 +55,7 @@ slice-aggregate-scan : tie.Need-slice-aggregate-scan
 slice-aggregate-scan c = search needs
 
 scan-requires-2 : tie.Need-scan-requires-2
-scan-requires-2 c κs = scannable-first _ _ _ (accepted (c .before .before .before .before)) (c .before .before .first-place .ensures)
+scan-requires-2 c κs = scannable-first _ _ _ (accepted (c .before .before .before .before)) (c .before .before .first-visit .ensures)
 
 cast-needed : tie.Need-cast-needed
 cast-needed c = search needs
@@ -102,7 +103,7 @@ copy-requires-2 c κs = search needs
 write-rest-requires : tie.Need-write-rest-requires
 write-rest-requires c κs =
     let kept = ap length (c .before .before .before .before .before .before .before .before .before .before .scan2 .ensures .1) ∙ put-length _ _ _ in
-    scannable-rest _ _ _ _ _ (accepted (c .before .before .before .before .before .before .before .before .before .before .before .before .before .before .before)) (c .before .before .before .before .before .before .before .before .before .before .before .before .before .first-place .ensures) (c .before .before .before .before .before .before .before .before .before .before .scan2 .ensures .0) (omega (arith, c .before .before .before .before .before .before .if4 .left))
+    scannable-rest _ _ _ _ _ (accepted (c .before .before .before .before .before .before .before .before .before .before .before .before .before .before .before)) (c .before .before .before .before .before .before .before .before .before .before .before .before .before .first-visit .ensures) (c .before .before .before .before .before .before .before .before .before .before .scan2 .ensures .0) (omega (arith, c .before .before .before .before .before .before .if4 .left))
     (omega (arith, copied-length (c .before .before .before .before .before .before .before .before .before .before .scan2 .last .1 .1 .1 .1 .0) (c .before .before .before .before .before .before .before .before .before .before .before .before .before .before .before .before .before .before .args .list .now) _ (c .before .before .before .copy2 .ensures .1) (omega (arith, kept, c .before .before .before .before .before .before .before .if3 .left, c .before .before .before .before .before .before .if4 .left)), c .before .before .before .before .before .before .before .if3 .left, c .before .before .before .before .before .before .if4 .left))
 
 same-length-3 : tie.Need-same-length-3
@@ -124,7 +125,7 @@ search-spec =
     returns
     sub-days-less-one
     cast-days-less-one
-    first-place-requires
+    first-visit-requires
     scan-requires
     counted-requires
     same-length

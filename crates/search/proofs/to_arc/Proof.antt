@@ -4,7 +4,7 @@ use borrow.Author.Needs.{needs}
 use borrow.Author.Tests.{lt-ltb, le-ltb}
 use Rattle.longitudes.proofs.Subtraction.{is-small}
 use Rattle.query.specs.Conditions.{inArc}
-use Rattle.search.specs.Passes.{approachTo}
+use Rattle.search.specs.Parts.{approachTo}
 use Rattle.search.proofs.to_arc.Statement.{statement}
 use Rattle.search.proofs.to_arc.Tie as tie
 

@@ -1,22 +1,23 @@
--- `examine_any_day` meets its contract: no such day; the Sun outside its arc; inside it, decided by the weekday, by nothing more being asked, by the elements, or by all that is asked.
+-- `examine_day` meets its contract: a visited day is one; the Sun outside its arcs; inside one, decided by the weekday,
+-- by nothing more being asked, by the elements, or by all that is asked.
 use borrow.Author.Needs.{needs}
 use borrow.Author.Tests.{not-true, not-false}
 use mathlib.Core.Path.{_≡_, ap, sym, subst, _∙_}
 use mathlib.Core.Bool.{true}
 use native.Mathlib.Omega.{arith}
 use Prim.Native.Nat.{ℕ, _<_}
-use Rattle.days.proofs.Laws.{ThatDay, that-day, no-such-day, past-last}
+use Rattle.days.proofs.Laws.{ThatDay, that-day, no-such-day}
 use Rattle.longitudes.specs.Longitudes.{circle, longitudeAt}
 use Rattle.query.specs.Query.{sunArcs}
 use Rattle.query.proofs.Accepted.{accepted-by}
 use Rattle.longitudes.proofs.Answers.{given-seconds}
 use Rattle.search.specs.Look.{sunOn}
 use Rattle.query.specs.Conditions.{arcsGiven}
-use Rattle.search.specs.Passes.{Approached}
+use Rattle.search.specs.Parts.{Approached}
 use Rattle.search.proofs.Arc.{given-decides, no-arcs, nearest-low}
-use Rattle.search.proofs.Look.{Inside, no-day, outside, by-weekday, by-no-more, by-elements, by-more}
-use Rattle.search.proofs.examine_any_day.Statement.{statement}
-use Rattle.search.proofs.examine_any_day.Tie as tie
+use Rattle.search.proofs.Look.{Inside, span-low, outside, by-weekday, by-no-more, by-elements, by-more}
+use Rattle.search.proofs.examine_day.Statement.{statement}
+use Rattle.search.proofs.examine_day.Tie as tie
 
 from-number-requires : tie.Need-from-number-requires
 from-number-requires c κs = search needs
@@ -25,11 +26,9 @@ refused-requires : tie.Need-refused-requires
 refused-requires c κs = search needs
 
 returns : tie.Need-returns
-returns c =
-    let h = no-such-day _ _ (c .before .before .before .from-number .ensures) (c .before .if1 .taken) in
-    c .refused .ensures ∙ rw (c .before .before .before .from-number .ensures, past-last _ h) (no-day _ _ h)
+returns c = absurd (omega (arith, no-such-day _ _ (c .before .before .before .from-number .ensures) (c .before .if1 .taken), span-low _ _ (c .before .before .before .before .pre .0) (c .before .before .before .before .pre .1 .0)))
 
-day : (c : tie.Else1) → ThatDay (c .before .before .before .args .day) (c .before .before .from-number .result)
+day : (c : tie.Else1) → ThatDay (c .before .before .before .args .visit .day) (c .before .before .from-number .result)
 day c = that-day _ _ (c .before .before .from-number .ensures) (c .if1 .left)
 
 more-asked-requires : tie.Need-more-asked-requires
@@ -41,11 +40,11 @@ element-copy-out-arcs c = search needs
 given-requires : tie.Need-given-requires
 given-requires c κs = search needs
 
-inside : (c : tie.Then2) → Inside (c .before .before .before .before .before .before .before .before .before .args .t1) (c .before .before .before .before .before .before .before .before .before .args .day) (c .before .before .before .before .before .before .before .before .from-number .result .day)
-inside c = let k = day (c .before .before .before .before .before .before) in record { edition = accepted-by _ (c .before .before .before .before .before .before .before .before .before .pre) .edition; low = k .number; pair = k .pair; sun = no-arcs _ _ (sym (c .before .given .ensures) ∙ not-true _ (c .if2 .taken)) }
+inside : (c : tie.Then2) → Inside (c .before .before .before .before .before .before .before .before .before .args .t1) (c .before .before .before .before .before .before .before .before .before .args .visit .day) (c .before .before .before .before .before .before .before .before .from-number .result .day)
+inside c = let k = day (c .before .before .before .before .before .before) in record { accepts = (c .before .before .before .before .before .before .before .before .before .pre .0); span = c .before .before .before .before .before .before .before .before .before .pre .1 .0; low = k .number; pair = k .pair; sun = no-arcs _ _ (sym (c .before .given .ensures) ∙ not-true _ (c .if2 .taken)) }
 
-weekday-met-requires : tie.Need-weekday-met-requires
-weekday-met-requires c κs = inside c .low
+admit-requires : tie.Need-admit-requires
+admit-requires c κs = search needs
 
 add-accepted : tie.Need-add-accepted
 add-accepted c = omega (arith, inside (c .before .before) .low)
@@ -54,7 +53,7 @@ accepted-requires : tie.Need-accepted-requires
 accepted-requires c κs = search needs
 
 returns-2 : tie.Need-returns-2
-returns-2 c = c .accepted .ensures ∙ by-weekday _ _ _ (inside (c .before .before .before)) _ (c .before .before .weekday-met .ensures) (c .before .if3 .taken)
+returns-2 c = c .accepted .ensures ∙ by-weekday _ _ _ (inside (c .before .before .before)) _ (c .before .before .admit .ensures) (c .before .if3 .taken)
 
 enum-told : tie.Need-enum-told
 enum-told c = search needs
@@ -90,13 +89,13 @@ accepted-requires-4 : tie.Need-accepted-requires-4
 accepted-requires-4 c κs = search needs
 
 returns-3 : tie.Need-returns-3
-returns-3 c = c .accepted2 .ensures ∙ by-no-more _ _ _ (inside (c .before .before .before .before .before)) _ (c .before .before .before .before .weekday-met .ensures) _ (c .before .before .before .if3 .left) (c .before .before .before .before .before .before .before .before .more-asked .ensures) (c .before .enum-told .given .1)
+returns-3 c = c .accepted2 .ensures ∙ by-no-more _ _ _ (inside (c .before .before .before .before .before)) _ (c .before .before .before .before .admit .ensures) _ (c .before .before .before .if3 .left) (c .before .before .before .before .before .before .before .before .more-asked .ensures) (c .before .enum-told .given .1)
 
 returns-4 : tie.Need-returns-4
-returns-4 c = c .accepted3 .ensures ∙ by-elements _ _ _ (inside (c .before .before .before .before .before .before .before .before .before)) _ (c .before .before .before .before .before .before .before .before .weekday-met .ensures) _ _ (c .before .before .before .before .before .before .before .if3 .left) (c .before .before .before .before .before .before .before .before .before .before .before .before .more-asked .ensures) (c .before .before .before .before .before .enum-told2 .given .1) (c .before .elements-met .ensures)
+returns-4 c = c .accepted3 .ensures ∙ by-elements _ _ _ (inside (c .before .before .before .before .before .before .before .before .before)) _ (c .before .before .before .before .before .before .before .before .admit .ensures) _ _ (c .before .before .before .before .before .before .before .if3 .left) (c .before .before .before .before .before .before .before .before .before .before .before .before .more-asked .ensures) (c .before .before .before .before .before .enum-told2 .given .1) (c .before .elements-met .ensures)
 
 returns-5 : tie.Need-returns-5
-returns-5 c = c .accepted4 .ensures ∙ by-more _ _ _ (inside (c .before .before .before .before .before .before)) _ (c .before .before .before .before .before .weekday-met .ensures) _ (c .before .before .before .before .if3 .left) (c .before .others-met .ensures)
+returns-5 c = c .accepted4 .ensures ∙ by-more _ _ _ (inside (c .before .before .before .before .before .before)) _ (c .before .before .before .before .before .admit .ensures) _ (c .before .before .before .before .if3 .left) (c .before .others-met .ensures)
 
 mean-longitude-requires : tie.Need-mean-longitude-requires
 mean-longitude-requires c κs = search needs
@@ -105,22 +104,22 @@ some : (c : tie.Else2) → arcsGiven (sunArcs (c .before .before .before .before
 some c = sym (c .before .given .ensures) ∙ not-false _ (c .if2 .left)
 
 nearer-requires : tie.Need-nearer-requires
-nearer-requires c κs = (accepted-by _ (c .before .before .before .before .before .before .before .before .before .before .pre) .sun, some (c .before))
+nearer-requires c κs = (accepted-by _ (c .before .before .before .before .before .before .before .before .before .before .pre .0) .sun, some (c .before))
 
-found : (c : tie.After-nearer) → Approached (sunArcs (c .before .before .before .before .before .before .before .before .before .before .before .args .t1)) (sunOn (c .before .before .before .before .before .before .before .before .before .before .before .args .day)) (c .nearer .result)
+found : (c : tie.After-nearer) → Approached (sunArcs (c .before .before .before .before .before .before .before .before .before .before .before .args .t1)) (sunOn (c .before .before .before .before .before .before .before .before .before .before .before .args .visit .day)) (c .nearer .result)
 found c =
     let k = day (c .before .before .before .before .before .before .before .before) in
     subst (λ (x : ℕ). Approached (sunArcs (c .before .before .before .before .before .before .before .before .before .before .before .args .t1)) x (c .nearer .result))
     (given-seconds _ _ (c .before .mean-longitude .ensures) (k .range) ∙ ap (longitudeAt 0) (k .pair))
     (c .nearer .ensures)
 
-inside-2 : (c : tie.Then4) → Inside (c .before .before .before .before .before .before .before .before .before .before .before .before .args .t1) (c .before .before .before .before .before .before .before .before .before .before .before .before .args .day) (c .before .before .before .before .before .before .before .before .before .before .before .from-number .result .day)
+inside-2 : (c : tie.Then4) → Inside (c .before .before .before .before .before .before .before .before .before .before .before .before .args .t1) (c .before .before .before .before .before .before .before .before .before .before .before .before .args .visit .day) (c .before .before .before .before .before .before .before .before .before .before .before .from-number .result .day)
 inside-2 c =
     let k = day (c .before .before .before .before .before .before .before .before .before) in
-    record { edition = accepted-by _ (c .before .before .before .before .before .before .before .before .before .before .before .before .pre) .edition; low = k .number; pair = k .pair; sun = given-decides _ _ true (some (c .before .before .before)) (sym (found (c .before) .within) ∙ c .if4 .taken) }
+    record { accepts = (c .before .before .before .before .before .before .before .before .before .before .before .before .pre .0); span = c .before .before .before .before .before .before .before .before .before .before .before .before .pre .1 .0; low = k .number; pair = k .pair; sun = given-decides _ _ true (some (c .before .before .before)) (sym (found (c .before) .within) ∙ c .if4 .taken) }
 
-weekday-met-requires-2 : tie.Need-weekday-met-requires-2
-weekday-met-requires-2 c κs = inside-2 c .low
+admit-requires-2 : tie.Need-admit-requires-2
+admit-requires-2 c κs = search needs
 
 add-accepted-5 : tie.Need-add-accepted-5
 add-accepted-5 c = omega (arith, inside-2 (c .before .before) .low)
@@ -129,7 +128,7 @@ accepted-requires-5 : tie.Need-accepted-requires-5
 accepted-requires-5 c κs = search needs
 
 returns-6 : tie.Need-returns-6
-returns-6 c = c .accepted5 .ensures ∙ by-weekday _ _ _ (inside-2 (c .before .before .before)) _ (c .before .before .weekday-met2 .ensures) (c .before .if5 .taken)
+returns-6 c = c .accepted5 .ensures ∙ by-weekday _ _ _ (inside-2 (c .before .before .before)) _ (c .before .before .admit2 .ensures) (c .before .if5 .taken)
 
 enum-told-4 : tie.Need-enum-told-4
 enum-told-4 c = search needs
@@ -165,13 +164,13 @@ accepted-requires-8 : tie.Need-accepted-requires-8
 accepted-requires-8 c κs = search needs
 
 returns-7 : tie.Need-returns-7
-returns-7 c = c .accepted6 .ensures ∙ by-no-more _ _ _ (inside-2 (c .before .before .before .before .before)) _ (c .before .before .before .before .weekday-met2 .ensures) _ (c .before .before .before .if5 .left) (c .before .before .before .before .before .before .before .before .before .before .before .more-asked .ensures) (c .before .enum-told4 .given .1)
+returns-7 c = c .accepted6 .ensures ∙ by-no-more _ _ _ (inside-2 (c .before .before .before .before .before)) _ (c .before .before .before .before .admit2 .ensures) _ (c .before .before .before .if5 .left) (c .before .before .before .before .before .before .before .before .before .before .before .more-asked .ensures) (c .before .enum-told4 .given .1)
 
 returns-8 : tie.Need-returns-8
-returns-8 c = c .accepted7 .ensures ∙ by-elements _ _ _ (inside-2 (c .before .before .before .before .before .before .before .before .before)) _ (c .before .before .before .before .before .before .before .before .weekday-met2 .ensures) _ _ (c .before .before .before .before .before .before .before .if5 .left) (c .before .before .before .before .before .before .before .before .before .before .before .before .before .before .before .more-asked .ensures) (c .before .before .before .before .before .enum-told5 .given .1) (c .before .elements-met2 .ensures)
+returns-8 c = c .accepted7 .ensures ∙ by-elements _ _ _ (inside-2 (c .before .before .before .before .before .before .before .before .before)) _ (c .before .before .before .before .before .before .before .before .admit2 .ensures) _ _ (c .before .before .before .before .before .before .before .if5 .left) (c .before .before .before .before .before .before .before .before .before .before .before .before .before .before .before .more-asked .ensures) (c .before .before .before .before .before .enum-told5 .given .1) (c .before .elements-met2 .ensures)
 
 returns-9 : tie.Need-returns-9
-returns-9 c = c .accepted8 .ensures ∙ by-more _ _ _ (inside-2 (c .before .before .before .before .before .before)) _ (c .before .before .before .before .before .weekday-met2 .ensures) _ (c .before .before .before .before .if5 .left) (c .before .others-met2 .ensures)
+returns-9 c = c .accepted8 .ensures ∙ by-more _ _ _ (inside-2 (c .before .before .before .before .before .before)) _ (c .before .before .before .before .before .admit2 .ensures) _ (c .before .before .before .before .if5 .left) (c .before .others-met2 .ensures)
 
 sub-accepted : tie.Need-sub-accepted
 sub-accepted c = search needs
@@ -191,10 +190,10 @@ accepted-requires-9 c κs = search needs
 returns-10 : tie.Need-returns-10
 returns-10 c =
     c .accepted9 .ensures
-    ∙ outside _ _ _ (day (c .before .before .before .before .before .before .before .before .before .before .before) .number) (some (c .before .before .before .before .before)) (found (c .before .before .before)) (c .before .before .if4 .left)
+    ∙ outside _ _ _ (c .before .before .before .before .before .before .before .before .before .before .before .before .before .before .pre .0) (c .before .before .before .before .before .before .before .before .before .before .before .before .before .before .pre .1 .0) (some (c .before .before .before .before .before)) (found (c .before .before .before)) (c .before .before .if4 .left)
 
-pub examine-any-day-spec : {M : Type 1} → statement M
-examine-any-day-spec =
+pub examine-day-spec : {M : Type 1} → statement M
+examine-day-spec =
     tie.close
     (tie.spec
     from-number-requires
@@ -203,7 +202,7 @@ examine-any-day-spec =
     more-asked-requires
     element-copy-out-arcs
     given-requires
-    weekday-met-requires
+    admit-requires
     add-accepted
     accepted-requires
     returns-2
@@ -223,7 +222,7 @@ examine-any-day-spec =
     returns-5
     mean-longitude-requires
     nearer-requires
-    weekday-met-requires-2
+    admit-requires-2
     add-accepted-5
     accepted-requires-5
     returns-6

@@ -1,26 +1,44 @@
--- What only contracts of private functions speak of: where a longitude stands to a body's arcs, the look without the span, the walk's turn, and what the passes over the visited days rely on and leave.
+-- What only contracts of private functions speak of: what more is asked, where a longitude stands to a body's arcs,
+-- whose turn it is in the scan, and what the passes over the visited days rely on and leave.
 -- Assumes nothing.
-use mathlib.Core.Bool.{Bool, true, false, cond, _&&_}
+use mathlib.Core.Bool.{Bool, true, false, cond, not, _&&_, _||_}
 use mathlib.Core.List.{List, _∷_}
 use mathlib.Core.Path.{_≡_}
 use Prim.Native.Nat.{ℕ, _+_, _-_, _<_, _≤_}
-use lib.Dec.{leb}
 use lib.ListN.{length, drop}
-use Rattle.days.specs.Refusals.{accepted, outOfRange}
-use Rattle.days.specs.Days.{lastDay}
 use Rattle.entries.specs.Runs.{filtered}
 use Rattle.longitudes.specs.Longitudes.{circle, differenceOf}
 use Rattle.query.specs.declared.Arc.{Arc}
 use Rattle.query.specs.declared.BodyArcs.{BodyArcs}
 use Rattle.query.specs.declared.Query.{Query}
-use Rattle.query.specs.Conditions.{givenArcs, inArc, inSome, nearestStart}
+use Rattle.query.specs.Conditions.{eachOther, arcsAt, arcsGiven, givenArcs, inArc, inSome, nearestStart}
 use Rattle.query.specs.Query.{conditionsMet, refusalOf}
-use Rattle.search.specs.declared.Examined.{Examined}
+use Rattle.search.specs.declared.More.{More}
+use Rattle.search.specs.declared.More.the-variants.{Nothing, Elements, Arcs}
 use Rattle.search.specs.declared.Approach.{Approach}
-use Rattle.search.specs.declared.Place.{Place}
+use Rattle.search.specs.declared.Visit.{Visit}
 use Rattle.search.specs.declared.Tally.{Tally}
-use Rattle.search.specs.Look.{nextDay, notExamined}
 use Rattle.search.specs.Days.{matchingDays, visitedFrom, visitedDays}
+
+-- a test holds for some body but the Sun: it does not fail for each
+abbrev pub someOther : (ℕ → Bool) → Bool
+someOther p = not (eachOther (λ (body : ℕ). not (p body)))
+
+-- an arc of another body than the Sun is given
+unfoldable pub otherArcsGiven : List BodyArcs → Bool
+otherArcsGiven arcs = someOther (λ (body : ℕ). arcsGiven (arcsAt arcs body))
+
+-- an element is asked for
+abbrev pub elementsGiven : Query → Bool
+elementsGiven q = q .tithi .given || (q .nakshatra .given || q .yoga .given)
+
+-- what is asked beside the Sun's arcs and the weekdays
+unfoldable pub moreAsked : Query → More
+moreAsked q = cond (otherArcsGiven (q .arcs)) Arcs (cond (elementsGiven q) Elements Nothing)
+
+-- how many of the matching days are kept beside a list that may be too short for them
+abbrev pub kept : ℕ
+kept = 176
 
 -- of a body's arcs the first that is given, or the second; and both are given
 unfoldable pub leadingArc : BodyArcs → Arc
@@ -38,11 +56,7 @@ pub record Approached (a : BodyArcs) (x : ℕ) (found : Approach) : Type 0 where
   pub within : found .inside ≡ inSome (givenArcs a) x
   pub nearest : found .inside ≡ false → found .ahead ≡ nearestStart (givenArcs a) x
 
--- the look at day n for a query that is not refused, with the conditions alone in place of a fitting day
-unfoldable pub examinedAnyDay : Query → ℕ → Examined
-examinedAnyDay q n = cond (leb n lastDay) (record { refusal = accepted; matches = conditionsMet q n; next = nextDay q n }) (notExamined outOfRange)
-
--- day d is the walk's number k, counted from 0
+-- day d is the visited day number k, counted from 0
 abbrev pub VisitAt : Query → ℕ → ℕ → Type 0
 VisitAt q k d = drop k (visitedDays q) ≡ d ∷ drop (k + 1) (visitedDays q)
 
@@ -54,29 +68,29 @@ visitsFrom q d = visitedFrom q (q .last + 1 - d) d
 abbrev pub matchesFrom : Query → ℕ → List ℕ
 matchesFrom q d = filtered (conditionsMet q) (visitsFrom q d)
 
--- a pass is at a place of the walk: so many days were visited before it, and n of them match
-pub record Reached (q : Query) (n : ℕ) (place : Place) : Type 0 where
-  pub visits : drop (place .examined) (visitedDays q) ≡ visitsFrom q (place .day)
-  pub matching : matchesFrom q (place .day) ≡ drop n (matchingDays q)
-  pub counted : n + length (matchesFrom q (place .day)) ≡ length (matchingDays q)
-  pub seen : place .examined + length (visitsFrom q (place .day)) ≡ length (visitedDays q)
-  pub fewer : n ≤ place .examined
-  pub gone : place .examined + q .first ≤ place .day
+-- a pass has come to a visit: so many days were visited before it, and n of them match
+pub record Reached (q : Query) (n : ℕ) (visit : Visit) : Type 0 where
+  pub visits : drop (visit .examined) (visitedDays q) ≡ visitsFrom q (visit .day)
+  pub matching : matchesFrom q (visit .day) ≡ drop n (matchingDays q)
+  pub counted : n + length (matchesFrom q (visit .day)) ≡ length (matchingDays q)
+  pub seen : visit .examined + length (visitsFrom q (visit .day)) ≡ length (visitedDays q)
+  pub fewer : n ≤ visit .examined
+  pub gone : visit .examined + q .first ≤ visit .day
 
 -- where a pass over the whole span begins
-abbrev pub firstPlace : Query → Place
-firstPlace q = record { day = q .first; examined = 0 }
+abbrev pub firstVisit : Query → Visit
+firstVisit q = record { day = q .first; examined = 0 }
 
--- the place after a visit, with the day handed back
-abbrev pub placeAfter : Place → ℕ → Place
-placeAfter place next = record { day = next; examined = place .examined + 1 }
+-- the visit behind it, of the day handed back
+abbrev pub visitAfter : Visit → ℕ → Visit
+visitAfter visit next = record { day = next; examined = visit .examined + 1 }
 
 -- no day of the span after day d matches
 abbrev pub NoneAfter : Query → ℕ → Type 0
 NoneAfter q d = (m : ℕ) → d < m → m ≤ q .last → conditionsMet q m ≡ false
 
--- what a pass from a place up to day `until` relies on: count days match before the place, and the output has room for them
-pub record Scannable (q : Query) (start : Place) (count until room : ℕ) : Type 0 where
+-- what a pass from a visit up to day `until` relies on: count days match before it, and the output has room for them
+pub record Scannable (q : Query) (start : Visit) (count until room : ℕ) : Type 0 where
   pub accepts : refusalOf q ≡ 0
   pub reached : Reached q count start
   pub fits : count ≤ room
@@ -89,8 +103,8 @@ pub record LastMatch (q : Query) (d : ℕ) : Type 0 where
   pub to-last : d ≤ q .last
   pub none-later : NoneAfter q d
 
--- what a pass from a place up to day `until` finds, with room for so many entries
-pub record Tallied (q : Query) (start : Place) (until room : ℕ) (tally : Tally) : Type 0 where
+-- what a pass from a visit up to day `until` finds, with room for so many entries
+pub record Tallied (q : Query) (start : Visit) (until room : ℕ) (tally : Tally) : Type 0 where
   pub count : tally .length ≡ length (matchingDays q)
   pub visits : until ≡ q .last → tally .examined ≡ length (visitedDays q)
   pub last-match : start .day ≡ q .first → LastMatch q (tally .latest)

@@ -1,9 +1,9 @@
 -- `more_asked` meets its contract: a test for the arcs and one for each element.
 use borrow.Author.Needs.{needs}
 use mathlib.Core.Path.{sym, _∙_}
-use Rattle.query.specs.Conditions.{moreAsked}
-use Rattle.query.proofs.more_asked.Statement.{statement}
-use Rattle.query.proofs.more_asked.Tie as tie
+use Rattle.search.specs.Parts.{moreAsked}
+use Rattle.search.proofs.more_asked.Statement.{statement}
+use Rattle.search.proofs.more_asked.Tie as tie
 
 other-arcs-given-requires : tie.Need-other-arcs-given-requires
 other-arcs-given-requires c κs = search needs

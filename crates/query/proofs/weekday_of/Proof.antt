@@ -5,8 +5,8 @@ use mathlib.Core.Path.{_≡_}
 use borrow.Author.Needs.{needs}
 use lib.Arith.{digits-div, digits-mod}
 use Rattle.days.specs.Days.{lastDay, weekdayOn}
-use Rattle.search.proofs.weekday_of.Statement.{statement}
-use Rattle.search.proofs.weekday_of.Tie as tie
+use Rattle.query.proofs.weekday_of.Statement.{statement}
+use Rattle.query.proofs.weekday_of.Tie as tie
 
 mul-sevenths : tie.Need-mul-sevenths
 mul-sevenths c = search needs

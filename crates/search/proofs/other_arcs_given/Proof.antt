@@ -5,10 +5,10 @@ use Prim.Native.Nat.{ℕ, _≤_, _<_, _-_}
 use native.Mathlib.Omega.{arith}
 use borrow.Author.Count.{below-more}
 use borrow.Author.Needs.{needs}
 use Rattle.query.specs.Conditions.{arcsGiven, arcsAt}
-use Rattle.query.proofs.Conditions.{arc-given, no-arc-given}
-use Rattle.query.proofs.other_arcs_given.Statement.{statement}
-use Rattle.query.proofs.other_arcs_given.Tie as tie
+use Rattle.search.proofs.Others.{arc-given, no-arc-given}
+use Rattle.search.proofs.other_arcs_given.Statement.{statement}
+use Rattle.search.proofs.other_arcs_given.Tie as tie
 
 abbrev Inv-loop : tie.InvT-loop
 Inv-loop arcs body₀ body = (1 ≤ body) × (body ≤ 9) × ((k : ℕ) → k < body → 0 < k → arcsGiven (arcsAt arcs k) ≡ false)
