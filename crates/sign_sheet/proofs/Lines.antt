@@ -1,10 +1,10 @@
--- The lines of a sheet of signs by refusal and index, and that each fits: a day has few bytes, and a sign has two digits. Assumes nothing.
+-- The lines of a sheet of signs by refusal and index, how many there are, and that each fits: a day has few bytes, and a sign has two digits. Assumes nothing.
 use mathlib.Core.List.{List, [], _∷_, _++_, append-assoc}
 use mathlib.Core.Path.{_≡_, refl, sym, ap, _∙_}
-use Prim.Native.Nat.{ℕ, zero, suc, _-_, _≤_, _<_}
+use Prim.Native.Nat.{ℕ, zero, suc, _+_, _-_, _≤_, _<_}
 use native.Mathlib.Omega.{arith}
 use lib.ListN.{length, length-append}
-use borrow.Author.Tests.{eq-eqb, ne-eqb, lt-ltb, le-ltb, le-leb, lt-leb}
+use borrow.Author.Tests.{eq-eqb, ne-eqb, le-leb, lt-leb}
 use Rattle.dated.specs.Dated.{namedDayBytes}
 use Rattle.dated.proofs.Laws.{named-day-short}
 use Rattle.days.specs.declared.DayAnswer.{DayAnswer}
@@ -16,17 +16,18 @@ use Rattle.longitudes.proofs.Table.{longitude-small}
 use Rattle.span_line.specs.declared.Span.{Span}
 use Rattle.span_line.specs.SpanLine.{spanInput}
 use Rattle.text.specs.declared.Line.{Line}
-use Rattle.text.specs.Lines.{newline, lineCapacity, emptyLine, withByte, withBytes, spaced, Holds, refusalLine}
-use Rattle.text.proofs.Holding.{holds}
-use Rattle.text.proofs.Lines.{with-byte-is, with-bytes-none, with-bytes-append}
+use Rattle.text.specs.Lines.{newline, lineCapacity, withByte, withBytes, spaced, Holds, refusalLine}
+use Rattle.text.specs.Sheets.{lineAt}
+use Rattle.text.proofs.Lines.{with-byte-is, with-bytes-append}
 use Rattle.text.proofs.Printing.{digits-length}
+use Rattle.text.proofs.Sheets.{line-first, line-next, line-behind}
 use Rattle.zodiac.specs.declared.Listing.{Listing}
 use Rattle.zodiac.specs.Zodiac.{signAt, signOf, signOn, listingOf, entriesAfter}
-use Rattle.sign_sheet.specs.SignSheets.{signHeading, signLine, listingOn, listOn, listingFor, listFor, listedLine, signSheetLine}
+use Rattle.sign_sheet.specs.SignSheets.{signHeading, signLine, noListing, listingOn, listOn, listingFor, listFor, listedLine, entryLines, listingLines}
 
 -- ---- the span's refusal decides what is listed
 module _ (s : Span) where
-  pub span-refused : (room : ℕ) → (s .refusal ≡ 0 → ⊥) → listingOn s room ≡ record { refusal = s .refusal; length = 0; examined = 0 }
+  pub span-refused : (room : ℕ) → (s .refusal ≡ 0 → ⊥) → listingOn s room ≡ noListing (s .refusal)
   unfolding listingOn
   span-refused room r = rw (ne-eqb (s .refusal) 0 r)
 
@@ -46,7 +47,7 @@ module _ (s : Span) (input list : List ℕ) (e : s ≡ spanInput input) where
   abbrev Listed : Listing → List ℕ → Type 0
   Listed found after = (found ≡ listingFor input (capacity list)) × (after ≡ listFor input list)
 
-  pub none-listed : (s .refusal ≡ 0 → ⊥) → Listed (record { refusal = s .refusal; length = 0; examined = 0 }) list
+  pub none-listed : (s .refusal ≡ 0 → ⊥) → Listed (noListing (s .refusal)) list
   none-listed r = rw (sym e) (sym (span-refused s (capacity list) r), sym (list-left s list r))
 
   pub all-listed :
@@ -57,31 +58,56 @@ module _ (s : Span) (input list : List ℕ) (e : s ≡ spanInput input) where
       Listed found after
   all-listed r found after ef ea = rw (sym e) (ef ∙ sym (span-listed s (capacity list) r), ea ∙ sym (list-filled s list r))
 
--- ---- which line is meant
-pub first-refused : (m : Listing) (list : List ℕ) (k : ℕ) → (m .refusal ≡ 0 → ⊥) → k ≡ 0 → signSheetLine m list k ≡ refusalLine (m .refusal)
-unfolding signSheetLine
-first-refused m list k r h = rw (h, ne-eqb (m .refusal) 0 r)
+-- ---- the lines of a listing
+module _ (m : Listing) (list : List ℕ) where
+  refused-lines : (m .refusal ≡ 0 → ⊥) → listingLines m list ≡ refusalLine (m .refusal) ∷ []
+  unfolding listingLines
+  refused-lines r = rw (ne-eqb (m .refusal) 0 r)
 
-pub rest-refused : (m : Listing) (list : List ℕ) (k : ℕ) → (m .refusal ≡ 0 → ⊥) → (k ≡ 0 → ⊥) → signSheetLine m list k ≡ []
-unfolding signSheetLine
-rest-refused m list zero r h = absurd (h refl)
-rest-refused m list (suc k) r h = rw (ne-eqb (m .refusal) 0 r)
+  pub accepted-lines : m .refusal ≡ 0 → listingLines m list ≡ signHeading ∷ entryLines list 0 (m .length)
+  unfolding listingLines
+  accepted-lines r = rw (eq-eqb (m .refusal) 0 r)
 
-pub first-is-heading : (m : Listing) (list : List ℕ) (k : ℕ) → m .refusal ≡ 0 → k ≡ 0 → signSheetLine m list k ≡ signHeading
-unfolding signSheetLine
-first-is-heading m list k r h = rw (h, eq-eqb (m .refusal) 0 r)
+entries-long : (list : List ℕ) (k n : ℕ) → length (entryLines list k n) ≡ n
+unfolding entryLines
+entries-long list k zero = refl
+entries-long list k (suc n) = ap suc (entries-long list (suc k) n)
 
-pub none-behind : (m : Listing) (list : List ℕ) (k : ℕ) → m .refusal ≡ 0 → m .length < k → signSheetLine m list k ≡ []
-unfolding signSheetLine
-none-behind m list zero r l = absurd (omega arith)
-none-behind m list (suc k) r l = rw (eq-eqb (m .refusal) 0 r, le-ltb k (m .length) (omega arith))
+entries-at : (list : List ℕ) (k n i : ℕ) → i < n → lineAt (entryLines list k n) i ≡ listedLine (entryAt list (k + i))
+unfolding entryLines
+entries-at list k zero i h = absurd (omega arith)
+entries-at list k (suc n) zero h = let here : k + 0 ≡ k = omega arith in rw here (line-first _ _)
+entries-at list k (suc n) (suc i) h =
+    let next : suc k + i ≡ k + suc i = omega arith in
+    line-next _ _ i ∙ entries-at list (suc k) n i (omega arith) ∙ ap (λ (j : ℕ). listedLine (entryAt list j)) next
 
-pub line-of-entry : (m : Listing) (list : List ℕ) (k : ℕ) → m .refusal ≡ 0 → (k ≡ 0 → ⊥) → k ≤ m .length → signSheetLine m list k ≡ listedLine (entryAt list (k - 1))
-unfolding signSheetLine
+-- ---- how many there are, and which line is meant
+module _ (m : Listing) (list : List ℕ) where
+  pub one-refused : (m .refusal ≡ 0 → ⊥) → 1 ≡ length (listingLines m list)
+  one-refused r = rw (refused-lines m list r)
+
+  pub heading-and-entries : m .refusal ≡ 0 → 1 + m .length ≡ length (listingLines m list)
+  heading-and-entries r = rw (accepted-lines m list r) (omega (arith, entries-long list 0 (m .length)))
+
+  module _ (k : ℕ) where
+    pub first-refused : (m .refusal ≡ 0 → ⊥) → k ≡ 0 → lineAt (listingLines m list) k ≡ refusalLine (m .refusal)
+    first-refused r h = rw (refused-lines m list r, h) (line-first _ _)
+
+    pub rest-refused : (m .refusal ≡ 0 → ⊥) → (k ≡ 0 → ⊥) → lineAt (listingLines m list) k ≡ []
+    rest-refused r h = rw (refused-lines m list r) (line-behind _ k (omega arith))
+
+    pub first-is-heading : m .refusal ≡ 0 → k ≡ 0 → lineAt (listingLines m list) k ≡ signHeading
+    first-is-heading r h = rw (accepted-lines m list r, h) (line-first _ _)
+
+    pub none-behind : m .refusal ≡ 0 → m .length < k → lineAt (listingLines m list) k ≡ []
+    none-behind r l = line-behind (listingLines m list) k (omega (arith, heading-and-entries r))
+
+pub line-of-entry : (m : Listing) (list : List ℕ) (k : ℕ) → m .refusal ≡ 0 → (k ≡ 0 → ⊥) → k ≤ m .length → lineAt (listingLines m list) k ≡ listedLine (entryAt list (k - 1))
 line-of-entry m list zero r h l = absurd (h refl)
 line-of-entry m list (suc k) r h l =
     let back : suc k - 1 ≡ k = omega arith in
-    rw (eq-eqb (m .refusal) 0 r, lt-ltb k (m .length) (omega arith), back)
+    let front : 0 + k ≡ k = omega arith in
+    rw (accepted-lines m list r, back) (line-next _ _ k ∙ entries-at list 0 (m .length) k (omega arith) ∙ ap (λ (j : ℕ). listedLine (entryAt list j)) front)
 
 module _ (due : NumberAnswer) where
   pub none-due : (due .refusal ≡ 0 → ⊥) → listedLine due ≡ []
@@ -125,6 +151,3 @@ heading-fits = omega arith
 -- a line holds what is meant
 pub meant : {l : Line} {xs ys : List ℕ} → xs ≡ ys → Holds l ys → Holds l xs
 meant e h = rw e h
-
-pub nothing-held : (l : Line) → l ≡ emptyLine → Holds l []
-nothing-held l e = holds l [] (omega arith) (e ∙ sym (with-bytes-none emptyLine))

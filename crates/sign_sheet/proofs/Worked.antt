@@ -17,10 +17,11 @@ use Rattle.span_line.specs.SpanLine.{spanLine, isOneLine, spanRead, spanInput}
 use Rattle.text.specs.Ascii.{ascii}
 use Rattle.text.specs.Decimal.{isDigit, allDigits, withDigit, valueOf, isNumber, numberRead, digitsWithin, digitsOf}
 use Rattle.text.specs.Lines.{spaced, refusalLine}
+use Rattle.text.specs.Sheets.{joined}
 use Rattle.values.specs.Values.{threeRead, numberOr, dateRead, dayRead}
 use Rattle.words.specs.Words.{isSeparator, runLength, upTo, afterFirst, trimmed, afterWords, sameBytes, placeIn, nameAt}
 use Rattle.zodiac.specs.Zodiac.{entersOn, signEntries}
-use Rattle.sign_sheet.specs.SignSheets.{signHeading, signLine, signLines, signSheet, signsPrinted}
+use Rattle.sign_sheet.specs.SignSheets.{signHeading, signLine, signLines, signsPrinted}
 
 -- the first cycle turns on day 4016, between two entries
 pub worked :
@@ -38,5 +39,5 @@ pub worked :
     ∷ ascii "refused 2\n"
     ∷ ascii "refused 3\n"
     ∷ []
-unfolding isSeparator runLength upTo afterFirst trimmed afterWords sameBytes placeIn nameAt isDigit allDigits withDigit valueOf isNumber numberRead digitsWithin digitsOf spaced refusalLine threeRead numberOr dateRead dayRead isEdition askedInRange weekdaysInRange arcInRange bodyArcsInRange arcsInRange conditionsInRange spanRefusal dayOf refusalOf withCondition rankOf ranksBefore firstRefusal firstValue secondValue numbersRead mostValues valuesRead conditionRead wordsRead lineRead spanLine isOneLine spanRead spanInput leap monthDays sameDate next dateOn dateOfDay dateBytes dayBytes namedDayBytes daysFrom filtered floorOver reduced table meanLongitude longitudeAt entersOn signEntries signHeading signLine signLines signSheet signsPrinted
+unfolding isSeparator runLength upTo afterFirst trimmed afterWords sameBytes placeIn nameAt isDigit allDigits withDigit valueOf isNumber numberRead digitsWithin digitsOf spaced refusalLine threeRead numberOr dateRead dayRead isEdition askedInRange weekdaysInRange arcInRange bodyArcsInRange arcsInRange conditionsInRange spanRefusal dayOf refusalOf withCondition rankOf ranksBefore firstRefusal firstValue secondValue numbersRead mostValues valuesRead conditionRead wordsRead lineRead spanLine isOneLine spanRead spanInput leap monthDays sameDate next dateOn dateOfDay dateBytes dayBytes namedDayBytes daysFrom filtered floorOver reduced table meanLongitude longitudeAt entersOn signEntries signHeading signLine signLines joined
 worked = refl

@@ -1,6 +1,7 @@
 -- `line` meets its contract: the listing's refusal and the line's index decide which line is meant. Assumes nothing.
 use borrow.Author.Needs.{needs}
-use Rattle.sign_sheet.proofs.Lines.{first-refused, rest-refused, first-is-heading, none-behind, line-of-entry, meant, nothing-held}
+use Rattle.text.proofs.Holding.{nothing-held}
+use Rattle.sign_sheet.proofs.Lines.{first-refused, rest-refused, first-is-heading, none-behind, line-of-entry, meant}
 use Rattle.sign_sheet.proofs.line.Statement.{statement}
 use Rattle.sign_sheet.proofs.line.Tie as tie
 
@@ -38,7 +39,7 @@ listed-line-requires : tie.Need-listed-line-requires
 listed-line-requires c κs = search needs
 
 returns-5 : tie.Need-returns-5
-returns-5 c = meant (line-of-entry _ _ _ (c .before .before .before .before .if1 .left) (c .before .before .before .if3 .left) (c .before .if4 .left)) (c .listed-line .ensures)
+returns-5 c = meant (line-of-entry _ _ _ (c .before .before .before .before .before .if1 .left) (c .before .before .before .before .if3 .left) (c .before .before .if4 .left)) (c .listed-line .ensures)
 
 pub line-spec : {M : Type 1} → statement M
 line-spec =

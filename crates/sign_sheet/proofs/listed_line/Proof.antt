@@ -1,8 +1,9 @@
 -- `listed_line` meets its contract: the entry that is read decides. Assumes nothing.
 use mathlib.Core.Path.{sym, ap, _∙_}
 use borrow.Author.Needs.{needs}
+use Rattle.text.proofs.Holding.{nothing-held}
 use Rattle.sign_sheet.specs.SignSheets.{listedLine}
-use Rattle.sign_sheet.proofs.Lines.{none-due, no-day-due, day-due, meant, nothing-held}
+use Rattle.sign_sheet.proofs.Lines.{none-due, no-day-due, day-due, meant}
 use Rattle.sign_sheet.proofs.listed_line.Statement.{statement}
 use Rattle.sign_sheet.proofs.listed_line.Tie as tie
 
