@@ -100,8 +100,8 @@ def filled(paragraph, front="", page=False):
 
 
 def wrapped_comment(lines, front):
-    """A comment's lines, each paragraph filled: it ends with an empty line, before an item, where the indent changes, or
-    where a line ends with a sentence (but in Python's texts)."""
+    """A comment's lines, each paragraph filled: it ends with an empty line, before an item, where the indent changes,
+    or where a line ends with a sentence (but in Python's texts)."""
     texts = [line[len(front):] if line.startswith(front.rstrip()) else line.strip() for line in lines]
     opened, apart = lines[0].lstrip().startswith("/*"), lines[-1].strip() == "*/"
     if opened:
@@ -136,7 +136,7 @@ def wrapped_page(lines):
         if alone:
             made.append(line)
         else:
-            paragraph.append(line if not paragraph else line.strip())
+            paragraph.append(line)
     return made[:-1]
 
 

@@ -35,7 +35,7 @@ enum {
 uint32_t graha_date_result(uint32_t year, uint32_t month, uint32_t day);
 uint32_t graha_date_day(uint32_t year, uint32_t month, uint32_t day);
 
-/* Of a day. Result 2: a day above 401599; then every other call that takes a day alone gives 0. (Orders have results of their own.) */
+/* Of a day. Result 2: a day above 401599. Then every call below that takes a day gives 0, but for a result, which is 2. */
 uint32_t graha_day_result(uint32_t day);
 /* Its civil date. */
 uint32_t graha_day_year(uint32_t day);
