@@ -82,9 +82,10 @@ def calls(names="graha_"):
 CALLS = calls()
 EXAMPLES = text("docs/find.md").split("## What may stand")[0].count("\nprints\n")
 STACK = measured(r"deepest stack: search (\d+)", "docs/performance.md")
-CORTEX = round(measured(r"cortex-m4: (\d+) bytes of code", "docs/controller.md") / 1000)
+CORTEX = round(measured(r"cortex-m4: (\d+) bytes of code", "docs/controller.md") / 1000, 1)
 KEPT = constant("KEPT", "crates/search/src/lib.rt")
 KIB = constant("TOO_LONG", "crates/text/src/lib.rt") // 1024
+PIECE = constant("PIECE", "crates/text/src/lib.rt") // 1024
 QUERY = constant("QUERY_BYTES", "crates/bridge/src/lib.rt")
 PART = constant("PART", "crates/find/src/main.rt")
 ENTRIES = constant("MOST_ENTRIES", "crates/sign_sheet/src/lib.rt")
@@ -117,13 +118,15 @@ COUNTED = [
     ("docs/speed-decisions.md", r"a query has", r"bytes since L9", QUERY),
     ("docs/contracts.md", r"for", r"bytes(?= the search|; else|: the)", QUERY),
     ("docs/DECISIONS.md", r"reads the", r"numbers of a query", QUERY // 4),
-    ("docs/DECISIONS.md", r"", r"KiB", KIB),
-    ("docs/contracts.md", r"", r"KiB", KIB),
-    ("docs/find.md", r"", r"KiB", KIB),
+    ("docs/DECISIONS.md", r"(?:A page of|An input of|`find` at most)", r"KiB", KIB),
+    ("docs/contracts.md", r"(?:below|its own for)", r"KiB", KIB),
+    ("docs/find.md", r"A page of", r"KiB", KIB),
+    ("docs/DECISIONS.md", r"of at most", r"KiB \(`text::PIECE`\)", PIECE),
+    ("docs/signs.md", r"a buffer of", r"KiB", PIECE),
     ("docs/signs.md", r"has fewer than", r"bytes", 1024 * KIB),
     ("docs/DECISIONS.md", r"into a list of", r"entries", PART),
     ("docs/DECISIONS.md", r"part by part,", r"days each", PART),
-    ("docs/DECISIONS.md", r"The list has", r"entries\*\*", ENTRIES),
+    ("docs/DECISIONS.md", r"The list has", r"entries", ENTRIES),
     ("docs/contracts.md", r"with a list of", r"entries", ENTRIES),
     ("docs/DECISIONS.md", r"`Line` has", r"bytes", LINE_BYTES),
     ("docs/contracts.md", r"all", r"bytes and len", LINE_BYTES),
@@ -135,16 +138,16 @@ COUNTED = [
 
 def number(word):
     word = word.lower()
-    return WORDS.index(word) if word in WORDS else int(word.replace(",", "")) if word[0].isdigit() else None
+    return WORDS.index(word) if word in WORDS else float(word.replace(",", "")) if word[0].isdigit() else None
 
 
 def miscounted():
     for page, before, behind, due in COUNTED:
-        pattern = " ".join(part for part in (before, r"([\d,]*\d|\w+)", behind) if part)
+        pattern = " ".join(part for part in (before, r"([\d,]*\d(?:\.\d)?|\w+)", behind) if part)
         pattern = pattern.replace(" th match", "th match") if behind.startswith("th ") else pattern
         found = [number(word) for word in re.findall(pattern.replace(" ", r"\s+"), text(page))]
         if not found or any(n != due for n in found):
-            said = ", ".join(map(str, found)) or "nothing"
+            said = ", ".join(f"{n:g}" if n is not None else "no number" for n in found) or "nothing"
             yield f"{page}: `{before} N {behind}` has {said}, and {due} is right"
 
 

@@ -1,15 +1,20 @@
 #!/usr/bin/env python3
-"""Reads that the search comes to longitudes, panchanga elements and conditions only through the look (paper 01), which no contract can say. It takes the sources of `search`
-and of every crate below it apart into functions and their calls (a method's call counts as one of every method of that name), and holds them to this:
+"""Reads that the search comes to longitudes, panchanga elements and conditions only through the look (paper 01), which
+no contract can say. It takes the sources of `search` and of every crate below it apart into functions and their calls
+(a method's call counts as one of every method of that name), and holds them to this:
 
-- from the public functions of `search`, without the look, no function of `longitudes` is reached, none of `panchanga` but the test of an edition's number, none of `query` but the
-  tests of a query's ranges, and none of `search` that the look calls;
-- `scan` calls the look, the step to the next visit and the list's put, each once, and nothing else but the length of its output; it hands the query to the look and does nothing else with it;
-- outside the look a query is handed on whole, asked for its refusal or for its first and last day, and that is all (`over_day` copies it for a span of one day);
+- from the public functions of `search`, without the look, no function of `longitudes` is reached, none of `panchanga`
+  but the test of an edition's number, none of `query` but the tests of a query's ranges, and none of `search` that the
+  look calls;
+- `scan` calls the look, the step to the next visit and the list's put, each once, and nothing else but the length of
+  its output; it hands the query to the look and does nothing else with it;
+- outside the look a query is handed on whole, asked for its refusal or for its first and last day, and that is all
+  (`over_day` copies it for a span of one day);
 - the pair of a day is made once, in the look, of the day of the visit that it is given.
 
-  python3 docs/check_look.py    then changes the sources in ways that break this, one by one, and sees that each is refused; prints a line for each complaint, or what was found,
-                                and exits with 1 where there is a complaint"""
+  python3 docs/check_look.py    then changes the sources in ways that break this, one by one, and sees that each is
+                                refused; prints a line for each complaint, or what was found, and exits with 1 where
+                                there is a complaint"""
 import collections
 import pathlib
 import re
@@ -51,8 +56,9 @@ def sources(crate):
 
 
 def functions(crate, text):
-    """Of each function, by its crate, its type and its name: whether it is public, and its body. By the layout that `rt fmt` holds the files to, what opens at an indent ends
-    with the next `}` of that indent, and a body begins with a `{` of that indent, or with the one that ends the line of its name."""
+    """Of each function, by its crate, its type and its name: whether it is public, and its body. By the layout that
+    `rt fmt` holds the files to, what opens at an indent ends with the next `}` of that indent, and a body begins with a
+    `{` of that indent, or with the one that ends the line of its name."""
     found, opened, name, body = {}, [], None, None
     for line in text.splitlines():
         line = re.sub(r"//.*", "", line)

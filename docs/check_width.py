@@ -106,8 +106,7 @@ def wrapped_comment(lines, front):
     opened, apart = lines[0].lstrip().startswith("/*"), lines[-1].strip() == "*/"
     if opened:
         texts[0] = re.sub(r"^ */\* ?", "", lines[0])
-        texts[-1] = re.sub(r" *\*/ *$", "", texts[-1])
-        texts = texts[:-1] if apart else texts
+        texts[-1:] = [] if apart else [re.sub(r" +\*/$", "\0*/", texts[-1])]
     paragraphs = []
     for text in texts:
         before = paragraphs[-1][-1] if paragraphs else ""
@@ -120,7 +119,7 @@ def wrapped_comment(lines, front):
     made = [line for paragraph in paragraphs for line in filled(paragraph, front)]
     if opened:
         made[0] = front[:-3] + "/*" + made[0][len(front) - 1:]
-        made[-1:] = [made[-1], lines[-1]] if apart else filled([made[-1][len(front):] + " */"], made[-1][:len(front)])
+        made[-1:] = [made[-1], lines[-1]] if apart else [made[-1].replace("\0", " ")]
     return made
 
 
