@@ -1,5 +1,5 @@
-/* Times the archive's calls side by side with plain C in one run, and prints ratios. `bench once NAME` makes one search,
-   or a call on a thousand days and two, for callgrind; `bench stack` prints the deepest stack of any call. */
+/* Times the archive's calls side by side with plain C in one run, and prints ratios. `bench once NAME` makes one
+ * search, or a call on a thousand days and two, for callgrind; `bench stack` prints the deepest stack of any call. */
 #include "../include/grahalaghava.h"
 #include "plain.h"
 #include <pthread.h>
@@ -80,7 +80,8 @@ static void all_months(uint32_t (*fill)(uint32_t, plain_record *, uint64_t), uin
 static void months(uint32_t edition, size_t unused) { (void)unused, all_months(fill_records, edition, month); }
 static void plain_months(uint32_t edition, size_t unused) { (void)unused, all_months(plain_fill_records, edition, other_month); }
 
-/* The three drifts over the whole span; of each side one is handed back. The call is of the comparison's archive, bridge. */
+/* The three drifts over the whole span; of each side one is handed back. The call is of the comparison's archive,
+ * bridge. */
 uint64_t bridge_drift_numerator(uint32_t first, uint32_t last, uint32_t body);
 static void drifts(uint32_t body, size_t unused) { (void)unused, sink += bridge_drift_numerator(0, DAYS - 1, body); }
 static void plain_drifts(uint32_t body, size_t unused) { (void)unused, sink += plain_drift(0, DAYS - 1, body).numerator; }
@@ -110,7 +111,8 @@ static void run(const job *j) {
     else all_days(j->call);
 }
 
-/* The least of many times: the machine's other work only adds. Both sides take turns, so that they meet the same machine. */
+/* The least of many times: the machine's other work only adds. Both sides take turns, so that they meet the same
+ * machine. */
 static void pair(const char *what, job a, job b, double most) {
     double best_a = 1e18, best_b = 1e18;
     for (int round = 0; round < 60; round++) {

@@ -1,6 +1,8 @@
-/* Three pages tested on every day in plain C, which prints the days' numbers. `every_day` is examples/torn-page.txt: a Monday, fourteen tithis elapsed, the Sun in the degree from 34.
-   `every_day EDITION` is a page that asks for elements alone: tithi 12, nakshatra 4, yoga 23, in an edition. `every_day either` has two weekdays and two arcs: a Monday or a Tuesday, the Sun in the
-   degree from 34 or in that from 64, and the tithi of the first. */
+/* Three pages tested on every day in plain C, which prints the days' numbers. `every_day` is examples/torn-page.txt: a
+ * Monday, fourteen tithis elapsed, the Sun in the degree from 34.
+ * `every_day EDITION` is a page that asks for elements alone: tithi 12, nakshatra 4, yoga 23, in an edition.
+ * `every_day either` has two weekdays and two arcs: a Monday or a Tuesday, the Sun in the degree from 34 or in that
+ * from 64, and the tithi of the first. */
 #include "plain.h"
 #include <stdio.h>
 #include <stdlib.h>

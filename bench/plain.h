@@ -1,4 +1,5 @@
-/* The same reckoning in plain C, as a good programmer writes it: the yardstick of the benchmark. It checks its input as the host's calls do. */
+/* The same reckoning in plain C, as a good programmer writes it: the yardstick of the benchmark. It checks its input as
+ * the host's calls do. */
 #ifndef PLAIN_H
 #define PLAIN_H
 #include <stddef.h>
@@ -49,7 +50,8 @@ typedef struct {
 /* One pass over the walk; the list must have an entry for each day of the span. */
 plain_found plain_search(uint32_t first, uint32_t last, uint32_t start, uint32_t width, uint32_t weekday, uint8_t *list, size_t len);
 
-/* The days after the first on which the mean Sun stands in another sign than the day before, by a test of every day of the span. */
+/* The days after the first on which the mean Sun stands in another sign than the day before, by a test of every day of
+ * the span. */
 plain_found plain_sign_entries(uint32_t first, uint32_t last, uint8_t *list, size_t len);
 
 /* Tests every day of the span. */

@@ -20,7 +20,8 @@ class Failed(Exception):
 
 
 class Target:
-    """What clang is told, what the archive may want of the compiler's runtime, and its limits: it stays under so many bytes of code and constants, and of stack."""
+    """What clang is told, what the archive may want of the compiler's runtime, and its limits: it stays under so many
+    bytes of code and constants, and of stack."""
 
     def __init__(self, words, wants, size, stack):
         self.words, self.wants, self.size, self.stack = words, wants, size, stack
@@ -75,8 +76,9 @@ def kit():
 
 
 def proved_module():
-    """The module that rt compiles once it has proved the library. rt is given a folder of links to its kit, in which clang is a script that keeps the module and calls the real
-    one. (The script has an empty environment, so all names in it are whole.)"""
+    """The module that rt compiles once it has proved the library. rt is given a folder of links to its kit, in which
+    clang is a script that keeps the module and calls the real one. (The script has an empty environment, so all names
+    in it are whole.)"""
     real, links, kept = kit(), OUT / "kit", OUT / "module.bc"
     shutil.rmtree(links, ignore_errors=True)
     clang, script = real.joinpath(*CLANG), links.joinpath(*CLANG)
@@ -104,7 +106,8 @@ exec '{clang}' "$@"
 
 
 def portable_module(clang, kept):
-    """The module as text, without what names the machine that rt compiles for, held to what it may hold; and the list of functions to be inlined."""
+    """The module as text, without what names the machine that rt compiles for, held to what it may hold; and the list
+    of functions to be inlined."""
     text, portable, inlined = OUT / "module.ll", OUT / "portable.ll", OUT / "inlined.csv"
     run([clang, "-x", "ir", "-S", "-emit-llvm", "-Xclang", "-disable-llvm-passes", kept, "-o", text], "the module cannot be read")
     written = module.portable(text.read_text(encoding="utf-8"))
@@ -140,7 +143,8 @@ def compiled(clang, portable, inlined, target, made):
 
 
 def hold_example(clang, target, root):
-    """The example for a controller, which has a static assertion on the header, compiles for the target. cc has the header files that need no C library."""
+    """The example for a controller, which has a static assertion on the header, compiles for the target. cc has the
+    header files that need no C library."""
     headers = run(["cc", "-print-file-name=include"], "cc does not say where its header files are")
     words = ["-std=c11", "-ffreestanding", "-nostdinc", "-isystem", headers, "-I", root / "include", "-Wall", "-Wextra", "-pedantic", "-Werror", "-fsyntax-only"]
     run([clang, *target.words, *words, root / "examples" / "controller.c"], "examples/controller.c does not compile")

@@ -1,8 +1,9 @@
 #!/usr/bin/env python3
 """Writes the part of record.c and replay.c that is one function for each call of the header.
 
-  python3 controller/make_calls.py FOLDER    writes FOLDER/record.inc, FOLDER/replay.inc, FOLDER/real.syms (objcopy's list of new names)
-                                             and FOLDER/wrong.calls (a call with a number that it does not hand back)"""
+  python3 controller/make_calls.py FOLDER    writes FOLDER/record.inc, FOLDER/replay.inc, FOLDER/real.syms (objcopy's
+                                             list of new names) and FOLDER/wrong.calls (a call with a number that it
+                                             does not hand back)"""
 import pathlib
 import sys
 

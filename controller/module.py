@@ -1,12 +1,13 @@
 """What the host's module may hold, so that it means the same on every machine with the low byte first.
 
-The module is LLVM's text, and each of its lines must have one of the forms below: reckoning with integers of at most 64 bits and with 64-bit floats, memory
-by addresses and offsets in bytes, jumps, and calls by name of the module's own functions and of four intrinsics. No form
-makes a number of a pointer or a pointer of a number, compares pointers, holds assembly, calls through a pointer or names
-another object's symbol. Beyond the forms, no function may come to call itself, and what is kept as a pointer may not be
-read as a number, or the other way round: a pointer has eight bytes of memory, of which a machine of 32 bits uses four.
-That is followed from a function into those that it calls with an address, at offsets that are numbers; not through a
-pointer that was itself kept in memory, an offset that is reckoned, or a copy of bytes."""
+The module is LLVM's text, and each of its lines must have one of the forms below: reckoning with integers of at most 64
+bits and with 64-bit floats, memory by addresses and offsets in bytes, jumps, and calls by name of the module's own
+functions and of four intrinsics. No form makes a number of a pointer or a pointer of a number, compares pointers, holds
+assembly, calls through a pointer or names another object's symbol. Beyond the forms, no function may come to call
+itself, and what is kept as a pointer may not be read as a number, or the other way round: a pointer has eight bytes of
+memory, of which a machine of 32 bits uses four. That is followed from a function into those that it calls with an
+address, at offsets that are numbers; not through a pointer that was itself kept in memory, an offset that is reckoned,
+or a copy of bytes."""
 import re
 
 NUMBER = r"(?:i1|i8|i16|i32|i64|double)"

@@ -1,10 +1,10 @@
-"""An ELF object file that clang wrote with -ffunction-sections and -fstack-size-section: how large it is, which symbols it defines and wants, and how
-deep a call's stack is.
+"""An ELF object file that clang wrote with -ffunction-sections and -fstack-size-section: how large it is, which symbols
+it defines and wants, and how deep a call's stack is.
 
-A call's stack is its function's own frame (clang's number, in `.stack_sizes`: pushed registers, spilled values, arguments on the stack) and the deepest among
-the functions that it calls. Who calls whom is read from the object's relocations: each function stands in a section of its own, so every call of
-another one needs a relocation, and each relocation to another function counts as a call. A function that calls itself needs none: module.py
-refuses it."""
+A call's stack is its function's own frame (clang's number, in `.stack_sizes`: pushed registers, spilled values,
+arguments on the stack) and the deepest among the functions that it calls. Who calls whom is read from the object's
+relocations: each function stands in a section of its own, so every call of another one needs a relocation, and each
+relocation to another function counts as a call. A function that calls itself needs none: module.py refuses it."""
 import struct
 
 ALLOC, WRITE, CODE = 2, 1, 4
@@ -131,8 +131,8 @@ class Object:
         return inside - {function}, outside
 
     def deepest(self, outside_frame):
-        """The deepest stack of any function that other objects can call, as the functions on the way down, each with its frame. A call of a symbol
-        that another object defines counts so many bytes."""
+        """The deepest stack of any function that other objects can call, as the functions on the way down, each with
+        its frame. A call of a symbol that another object defines counts so many bytes."""
         known = {}
 
         def below(function, above):

@@ -1,9 +1,10 @@
-/* The calls of libhost.a for the second program on x86-64, each made of the proved archive (whose names have `real_` before them here) and written
- * down for replay.c: the call's number, its arguments and what it handed back, low byte first, and for a list how many bytes from its start
- * were written, and these. make_calls.py writes record.inc, which has a function for each call of the header.
+/* The calls of libhost.a for the second program on x86-64, each made of the proved archive (whose names have `real_`
+ * before them here) and written down for replay.c: the call's number, its arguments and what it handed back, low byte
+ * first, and for a list how many bytes from its start were written, and these. make_calls.py writes record.inc, which
+ * has a function for each call of the header.
  *
- * Which bytes of a list are written shows where the call is made once more, on a list in which every bit is turned: a byte that comes out the same in both is
- * written, and one that comes out turned is as it was. */
+ * Which bytes of a list are written shows where the call is made once more, on a list in which every bit is turned: a
+ * byte that comes out the same in both is written, and one that comes out turned is as it was. */
 #include <stdio.h>
 #include <stdlib.h>
 #include <string.h>

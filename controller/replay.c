@@ -1,6 +1,7 @@
-/* Makes the calls that record.c wrote down (on standard input) of another machine's libhost.a, and compares every number that is handed back and
- * every byte of every list, and of the bytes on both sides of it. Ends at the first difference with status 1, and also where the calls break off, where a
- * call of the header was never made, or one that takes a day alone not on every day. make_calls.py writes replay.inc, which has a function for each call. */
+/* Makes the calls that record.c wrote down (on standard input) of another machine's libhost.a, and compares every
+ * number that is handed back and every byte of every list, and of the bytes on both sides of it. Ends at the first
+ * difference with status 1, and also where the calls break off, where a call of the header was never made, or one that
+ * takes a day alone not on every day. make_calls.py writes replay.inc, which has a function for each call. */
 #include <stdio.h>
 #include <stdlib.h>
 #include <string.h>

@@ -1,5 +1,6 @@
-/* For the bench: what a controller does with the archive, with no C library and no memory but its own. It sets the nine arms of a day, and looks for the days of a
- * year on which the Sun stands in a degree. controller/build compiles it for every controller that there is an archive for. */
+/* For the bench: what a controller does with the archive, with no C library and no memory but its own. It sets the nine
+ * arms of a day, and looks for the days of a year on which the Sun stands in a degree. controller/build compiles it for
+ * every controller that there is an archive for. */
 #include "grahalaghava.h"
 
 /* A list's length has 64 bits in the call, also where size_t has 32. */
@@ -26,7 +27,8 @@ void set_arms(uint32_t day)
         arms[arm] = PLACES[arm](day);
 }
 
-/* The Mondays of the year from a day on with the Sun in the first degree: GRAHA_ACCEPTED, and the list has them; or another result, and it has not. */
+/* The Mondays of the year from a day on with the Sun in the first degree: GRAHA_ACCEPTED, and the list has them; or
+ * another result, and it has not. */
 uint32_t find_mondays(uint32_t day)
 {
     return graha_search(day, day + 364, 0, 3600, 0, list, sizeof list);

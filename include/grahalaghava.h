@@ -1,8 +1,10 @@
-/* The calls of libhost.a: days, places, orders for the arms of a table and searches after the Grahalaghava, as plain numbers.
+/* The calls of libhost.a: days, places, orders for the arms of a table and searches after the Grahalaghava, as plain
+ * numbers.
  *
- * Days are 0 to 401599, from 19 March 1520 (Julian) to 13 October 2619 (Gregorian). Places are mean sunrise's at Ujjain, in whole
- * seconds of arc from 0 to 1295999. A call hands back one number, so each number of an answer has a call of its own; a result
- * is 0 or a refusal's number, and a number of a refused answer is 0. Every argument is allowed. There is no state.
+ * Days are 0 to 401599, from 19 March 1520 (Julian) to 13 October 2619 (Gregorian). Places are mean sunrise's at
+ * Ujjain, in whole seconds of arc from 0 to 1295999. A call hands back one number, so each number of an answer has a
+ * call of its own; a result is 0 or a refusal's number, and a number of a refused answer is 0. Every argument is
+ * allowed. There is no state.
  *
  * docs/host.md has more: linking, the refusals, the list.
  */
@@ -30,12 +32,14 @@ enum {
     GRAHA_NO_SUCH_BODY = 16      /* a body above 8, of an order */
 };
 
-/* A civil date (year from 0 up, month 1 to 12, day from 1) to its day: Julian up to 4 October 1582, Gregorian from 15 October 1582.
+/* A civil date (year from 0 up, month 1 to 12, day from 1) to its day: Julian up to 4 October 1582, Gregorian from 15
+ * October 1582.
  * Result 1: no such date; 2: a date outside the table. */
 uint32_t graha_date_result(uint32_t year, uint32_t month, uint32_t day);
 uint32_t graha_date_day(uint32_t year, uint32_t month, uint32_t day);
 
-/* Of a day. Result 2: a day above 401599. Then every call below that takes a day gives 0, but for a result, which is 2. */
+/* Of a day. Result 2: a day above 401599. Then every call below that takes a day gives 0, but for a result, which is
+ * 2. */
 uint32_t graha_day_result(uint32_t day);
 /* Its civil date. */
 uint32_t graha_day_year(uint32_t day);
@@ -56,12 +60,15 @@ uint32_t graha_next_result(uint32_t cycle, uint32_t within);
 uint32_t graha_next_cycle(uint32_t cycle, uint32_t within);
 uint32_t graha_next_within(uint32_t cycle, uint32_t within);
 
-/* A Saka lunar date (year 1442 to 2541, months 0 to 11, tithis 0 to 29, all elapsed; weekday 0 Monday to 6 Sunday) to its day.
- * Result 3: months, tithis or weekday out of range; 2: the year or the day found; 4: none of the three days has the weekday. */
+/* A Saka lunar date (year 1442 to 2541, months 0 to 11, tithis 0 to 29, all elapsed; weekday 0 Monday to 6 Sunday) to
+ * its day.
+ * Result 3: months, tithis or weekday out of range; 2: the year or the day found; 4: none of the three days has the
+ * weekday. */
 uint32_t graha_saka_result(uint32_t year, uint32_t months, uint32_t tithis, uint32_t weekday);
 uint32_t graha_saka_day(uint32_t year, uint32_t months, uint32_t tithis, uint32_t weekday);
-/* The same with one extra month (adhikamasa) fewer for any pending but 0: for a date before its year's extra month, where that has been
- * counted already. The tithi of the answer tells whether it has (docs/saka.md). Result 8, after 2 for the year and before 4: there is none to take. */
+/* The same with one extra month (adhikamasa) fewer for any pending but 0: for a date before its year's extra month,
+ * where that has been counted already. The tithi of the answer tells whether it has (docs/saka.md). Result 8, after 2
+ * for the year and before 4: there is none to take. */
 uint32_t graha_saka_pending_result(uint32_t year, uint32_t months, uint32_t tithis, uint32_t weekday, uint32_t pending);
 uint32_t graha_saka_pending_day(uint32_t year, uint32_t months, uint32_t tithis, uint32_t weekday, uint32_t pending);
 
@@ -127,11 +134,11 @@ uint32_t graha_carry_out_result(double angle, double rate, uint32_t order, doubl
 double graha_carry_out_angle(double angle, double rate, uint32_t order, double value);
 double graha_carry_out_rate(double angle, double rate, uint32_t order, double value);
 
-/* Every day from first to last, both counted, that has the weekday and whose mean Sun is in the arc from sun_start (up to 1295999),
- * sun_width seconds wide (1 to 1296000). With result 0 the days stand in the list, earliest first, four bytes a day, low byte first, and
- * the bytes behind them are as they were. With any other result the whole list is as it was. list_len is in bytes; a tail under
- * four is never written. Result 2: first or last above 401599; 5: last before first; 6: weekday, start or width out of
- * range; 7: more days than list_len / 4. */
+/* Every day from first to last, both counted, that has the weekday and whose mean Sun is in the arc from sun_start (up
+ * to 1295999), sun_width seconds wide (1 to 1296000). With result 0 the days stand in the list, earliest first, four
+ * bytes a day, low byte first, and the bytes behind them are as they were. With any other result the whole list is as
+ * it was. list_len is in bytes; a tail under four is never written. Result 2: first or last above 401599; 5: last
+ * before first; 6: weekday, start or width out of range; 7: more days than list_len / 4. */
 uint32_t graha_search(uint32_t first, uint32_t last, uint32_t sun_start, uint32_t sun_width, uint32_t weekday,
                       uint8_t *list, uint64_t list_len);
 /* How many days the search finds, however long a list: for results 0 and 7, else 0. */
@@ -139,8 +146,9 @@ uint32_t graha_search_length(uint32_t first, uint32_t last, uint32_t sun_start, 
 /* How many days the search looks at to find them: for results 0 and 7, else 0. */
 uint32_t graha_search_looked(uint32_t first, uint32_t last, uint32_t sun_start, uint32_t sun_width, uint32_t weekday);
 
-/* Every day after first, up to last, on which the mean Sun stands in another sign of 30 degrees (108000 seconds) than the day before. The list, its
- * length and the bytes behind the days are as in the search. Result 2: first or last above 401599; 5: last before first; 7: more days than list_len / 4.
+/* Every day after first, up to last, on which the mean Sun stands in another sign of 30 degrees (108000 seconds) than
+ * the day before. The list, its length and the bytes behind the days are as in the search. Result 2: first or last
+ * above 401599; 5: last before first; 7: more days than list_len / 4.
  * A list of (last - first + 1) / 30 + 1 entries always does. */
 uint32_t graha_sign_entries(uint32_t first, uint32_t last, uint8_t *list, uint64_t list_len);
 /* How many these days are, however long a list: for results 0 and 7, else 0. */

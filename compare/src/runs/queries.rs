@@ -188,9 +188,9 @@ fn value_near(random: &mut Random, own: u32, values: u32) -> u32 {
     }
 }
 
-/// A query in an edition, whose given conditions are the bits of `given`: a weekday and three values,
-/// then the nine bodies' first arcs. Mostly they are chosen so that one day of the span meets them all; every eighth time
-/// they are that day's in either edition.
+/// A query in an edition, whose given conditions are the bits of `given`: a weekday and three values, then the nine
+/// bodies' first arcs. Mostly they are chosen so that one day of the span meets them all; every eighth time they are
+/// that day's in either edition.
 pub fn random_query(
     random: &mut Random,
     almanac: &Almanac,

@@ -1,5 +1,6 @@
--- How far a body goes in a day, of all bodies and days: at most 191 seconds back and 47,444 forwards. Within a cycle it goes the whole seconds of its motion or one more,
--- where a cycle turns what its row leaves; the three are computed for each row.
+-- How far a body goes in a day, of all bodies and days: at most 191 seconds back and 47,444 forwards. Within a cycle it
+-- goes the whole seconds of its motion or one more, where a cycle turns what its row leaves; the three are computed for
+-- each row.
 -- Assumes nothing.
 use mathlib.Core.Path.{_≡_, refl, sym, ap, _∙_, subst}
 use mathlib.Core.Bool.{Bool, true, _||_, _&&_}

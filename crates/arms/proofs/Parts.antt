@@ -1,5 +1,6 @@
--- A body's whole seconds by its steps are those of its row: on each day of a cycle its motion in parts of a second, rounded up, gives the same whole seconds as the exact motion;
--- by what the quotients leave over. And within a cycle the way forwards to the next day is what the day moves.
+-- A body's whole seconds by its steps are those of its row: on each day of a cycle its motion in parts of a second,
+-- rounded up, gives the same whole seconds as the exact motion; by what the quotients leave over. And within a cycle
+-- the way forwards to the next day is what the day moves.
 -- Assumes nothing.
 use mathlib.Core.Path.{_≡_, sym, ap, _∙_}
 use Prim.Native.Nat.{ℕ, _+_, _*_, _-_, _/_, _%_, _<_, _≤_}

@@ -1,4 +1,5 @@
--- Between what degrees lie: by the order of roundings against the ends, which compute; what is backwards is the negation of what is forwards.
+-- Between what degrees lie: by the order of roundings against the ends, which compute; what is backwards is the
+-- negation of what is forwards.
 -- Assumes nothing.
 use mathlib.Core.Path.{_≡_, refl, sym, ap, _∙_, subst}
 use mathlib.Core.Bool.{Bool, true, false, not, cond, _||_, _&&_}

@@ -1,4 +1,5 @@
--- The short way is the way forwards, or that less a circle, as the code has it in signed 32-bit numbers; and it is within half a circle.
+-- The short way is the way forwards, or that less a circle, as the code has it in signed 32-bit numbers; and it is
+-- within half a circle.
 -- Assumes nothing.
 use mathlib.Core.Path.{_≡_, refl, sym, ap, _∙_, subst}
 use Prim.Native.Nat.{ℕ, suc, _-_, _≤_, _<_}

@@ -1,4 +1,5 @@
--- Orders computed from the meaning: angles exact and not, rates forwards, backwards and where a cycle turns, the last day, and the refusals in their order.
+-- Orders computed from the meaning: angles exact and not, rates forwards, backwards and where a cycle turns, the last
+-- day, and the refusals in their order.
 -- Assumes nothing.
 use mathlib.Core.Path.{_≡_, refl}
 use mathlib.Core.Bool.{true, false}
@@ -22,7 +23,8 @@ pub places : placeOf 33649 0 ∷ placeOf 169 0 ∷ placeOf 69 6 ∷ placeOf 4016
 unfolding placeOf orderRefusal degreesOf round longitudeAt table meanLongitude floorOver reduced
 places = refl
 
--- the Sun 3548 seconds a day and the node 191 back from day 33649 on, the Moon 47444 where the first cycle turns; to hold on the last day
+-- the Sun 3548 seconds a day and the node 191 back from day 33649 on, the Moon 47444 where the first cycle turns; to
+-- hold on the last day
 pub follows : followOf 33649 0 ∷ followOf 33649 3 ∷ followOf 4015 1 ∷ followOf 401599 0 ∷ followOf 401600 9 ∷ followOf 401599 9 ∷ []
     ≡ run (fin false 2219273816376461 (negsuc 50)) ∷ run (fin true 7646111367357909 (negsuc 56)) ∷ run (fin false 3709527443072323 (negsuc 47)) ∷ held 0 ∷ held 2 ∷ held 16 ∷ []
 unfolding followOf orderRefusal degreesOf round shortWay differenceOf longitudeAt table meanLongitude floorOver reduced

@@ -16,6 +16,7 @@ degreesOf (negsuc n) = round binary64 true (suc n) 3600
 abbrev pub half : ℕ
 half = 648000
 
--- the way forwards where that is less than half a circle, else the way back, which counts as negative: half a circle is backwards
+-- the way forwards where that is less than half a circle, else the way back, which counts as negative: half a circle is
+-- backwards
 unfoldable pub shortWay : ℕ → ℕ → ℤ
 shortWay from to = cond (ltb (differenceOf to from) half) (pos (differenceOf to from)) (negℤ (pos (differenceOf from to)))

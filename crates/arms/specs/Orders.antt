@@ -1,4 +1,5 @@
--- Orders for the arms: what an order does to an arm, which order places or follows a body, and the numbers of each case.
+-- Orders for the arms: what an order does to an arm, which order places or follows a body, and the numbers of each
+-- case.
 -- Assumes nothing.
 use mathlib.Core.Bool.{false, cond}
 use Prim.Native.Nat.{ℕ, _+_}

@@ -1,4 +1,5 @@
--- What only contracts of private functions speak of: a body's whole seconds by its steps, and the short way of a way forwards.
+-- What only contracts of private functions speak of: a body's whole seconds by its steps, and the short way of a way
+-- forwards.
 -- Assumes nothing.
 use mathlib.Core.Bool.{cond}
 use mathlib.Core.Path.{_≡_}

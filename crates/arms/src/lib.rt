@@ -1,4 +1,5 @@
-// Orders for the arms of a planet table: to hold, to go to a body's angle, or to run at its rate, in degrees as 64-bit floats.
+// Orders for the arms of a planet table: to hold, to go to a body's angle, or to run at its rate, in degrees as 64-bit
+// floats.
 use days::Day;
 use days::refusal;
 use longitudes::CIRCLE;
@@ -132,10 +133,12 @@ fn signed_way(forwards: u32) -> i32
     }
 }
 
-// Parts of a second, so small that a day's motion rounded up to a part gives the same whole seconds on each day of a cycle.
+// Parts of a second, so small that a day's motion rounded up to a part gives the same whole seconds on each day of a
+// cycle.
 const PARTS: u64 = 8388608;
 
-// What a body's whole seconds are reckoned from, with no division by its own q: its longitude at the epoch, what a cycle adds, and a day's motion in parts, rounded up.
+// What a body's whole seconds are reckoned from, with no division by its own q: its longitude at the epoch, what a
+// cycle adds, and a day's motion in parts, rounded up.
 struct Steps {
     epoch: u32,
     cycle: u32,

@@ -1,4 +1,5 @@
--- What the bridge hands back: the library's own answers for a query of 260 bytes, and refusal 3 for bytes of another length.
+-- What the bridge hands back: the library's own answers for a query of 260 bytes, and refusal 3 for bytes of another
+-- length.
 -- Assumes nothing.
 use mathlib.Core.Bool.{cond}
 use mathlib.Core.List.{List, [], _∷_}

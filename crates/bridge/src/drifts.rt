@@ -1,4 +1,5 @@
-// The three drifts over a span, each number by a call of its own: 0 the Sun's, 1 the Moon's, 2 the Moon's apogee's; from 3 on zeros.
+// The three drifts over a span, each number by a call of its own: 0 the Sun's, 1 the Moon's, 2 the Moon's apogee's;
+// from 3 on zeros.
 use older_motions::Drifts;
 use older_motions::Farthest;
 ghost use mathlib.Core.Path.{_≡_};

@@ -1,4 +1,5 @@
-// The catalogue's lines and heading as C calls: each number of an answer has a call of its own, and each call fills the buffer.
+// The catalogue's lines and heading as C calls: each number of an answer has a call of its own, and each call fills the
+// buffer.
 use catalogue::Piece;
 ghost use mathlib.Core.Path.{_≡_};
 ghost use lib.ListN.{length};

@@ -123,7 +123,8 @@ pub extern "C" fn bridge_why_edition(query: &[u8], day: u32) -> u32
     answer(query, day).edition
 }
 
-// The number of the first condition that does not hold: 1 before the span, 2 after it, 3 weekday, 4 tithi, 5 nakshatra, 6 yoga, from 7 on the arcs of the body with the number 7 less; 0 where the day fits.
+// The number of the first condition that does not hold: 1 before the span, 2 after it, 3 weekday, 4 tithi, 5 nakshatra,
+// 6 yoga, from 7 on the arcs of the body with the number 7 less; 0 where the day fits.
 #[no_mangle]
 pub extern "C" fn bridge_why_condition(query: &[u8], day: u32) -> u32
     ensures { λ r. ⌜ r ≡ bridgeWhy (now (query .entry)) day .cause .condition ⌝ }
@@ -131,7 +132,8 @@ pub extern "C" fn bridge_why_condition(query: &[u8], day: u32) -> u32
     answer(query, day).cause.condition
 }
 
-// One of the values asked, counted from 0; of arcs first given, start and width, second given, start and width. Behind the last one 0.
+// One of the values asked, counted from 0; of arcs first given, start and width, second given, start and width. Behind
+// the last one 0.
 #[no_mangle]
 pub extern "C" fn bridge_why_asked(query: &[u8], day: u32, index: u32) -> u32
     ensures { λ r. ⌜ r ≡ getD (sixOf (bridgeWhy (now (query .entry)) day .cause .asked)) index 0 ⌝ }

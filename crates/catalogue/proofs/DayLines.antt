@@ -1,4 +1,5 @@
--- The line of a day, put together from what is found of the day, and that it fits a line: each number of it has few digits. Assumes nothing.
+-- The line of a day, put together from what is found of the day, and that it fits a line: each number of it has few
+-- digits. Assumes nothing.
 use mathlib.Core.Path.{_≡_}
 use mathlib.Core.Bool.{Bool, true, false, cond}
 use mathlib.Core.List.{List, [], _∷_, _++_, append-assoc}

@@ -1,5 +1,5 @@
--- The loop of `lines`: what was put so far and what the rest of the list will put are the whole piece, by induction on the days due; where
--- nothing more is put, the piece is the answer, or its refusal where it is empty. Assumes nothing.
+-- The loop of `lines`: what was put so far and what the rest of the list will put are the whole piece, by induction on
+-- the days due; where nothing more is put, the piece is the answer, or its refusal where it is empty. Assumes nothing.
 use mathlib.Core.Path.{_≡_, refl, ap, ap₂, sym, _∙_}
 use mathlib.Core.Bool.{Bool, true, false, cond}
 use mathlib.Core.List.{List, [], _∷_, _++_, append-assoc}

@@ -1,5 +1,6 @@
--- Pieces put together: a piece is the front of the lines that are due, and the lines from the entry handed back on are the rest; so calls
--- that go on until none is left put the line of each day, in order, each once. By induction on the days.
+-- Pieces put together: a piece is the front of the lines that are due, and the lines from the entry handed back on are
+-- the rest; so calls that go on until none is left put the line of each day, in order, each once. By induction on the
+-- days.
 -- Assumes nothing.
 use mathlib.Core.Path.{_≡_, refl, ap}
 use mathlib.Core.Bool.{Bool, true, false, and-eq-true-iff}

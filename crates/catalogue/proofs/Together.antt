@@ -1,6 +1,6 @@
--- THE LAW of the pieces: calls that go on from the entry handed back until none is left put the line of each listed day, in order, each once,
--- whatever the buffers are in which each line fits. A piece is the front of the lines that are due, and the lines from the entry handed back on
--- are the rest; by induction on the calls. Assumes nothing.
+-- THE LAW of the pieces: calls that go on from the entry handed back until none is left put the line of each listed
+-- day, in order, each once, whatever the buffers are in which each line fits. A piece is the front of the lines that
+-- are due, and the lines from the entry handed back on are the rest; by induction on the calls. Assumes nothing.
 use mathlib.Core.Path.{_≡_, refl, ap, ap₂, sym, subst, _∙_}
 use mathlib.Core.Bool.{Bool, true, false}
 use mathlib.Core.List.{List, [], _∷_, _++_, append-assoc, append-nil}
@@ -157,8 +157,8 @@ module _ (ed : ℕ) where
   days-length list k zero = ap length (no-days list k)
   days-length list k (suc n) = ap length (more-days list k n) ∙ ap suc (days-length list (suc k) n)
 
-  -- the bytes that n calls put one after another, the first from entry k on and each other from the entry that the one before it handed back;
-  -- `buffers i` is the buffer of the call behind which i are left
+  -- the bytes that n calls put one after another, the first from entry k on and each other from the entry that the one
+  -- before it handed back; `buffers i` is the buffer of the call behind which i are left
   pub piecesFrom : List ℕ → (ℕ → List ℕ) → ℕ → ℕ → List ℕ
   piecesFrom list buffers zero k = []
   piecesFrom list buffers (suc n) k =

@@ -1,5 +1,5 @@
--- The catalogue as it is put, piece by piece, at the front of a lent buffer: the heading, or the lines of a list's days from an entry on,
--- as many as fit whole.
+-- The catalogue as it is put, piece by piece, at the front of a lent buffer: the heading, or the lines of a list's days
+-- from an entry on, as many as fit whole.
 -- Assumes nothing.
 use mathlib.Core.Bool.{Bool, true, false, cond, _&&_}
 use mathlib.Core.List.{List, [], _∷_, _++_}

@@ -135,7 +135,8 @@ fn unless_empty(piece: Piece, from: usize, refused: Piece) -> Piece
     if from < piece.next { piece } else { refused }
 }
 
-// The lines of a list's days from an entry on, with an edition's elements, as many as fit whole, at the front of the buffer.
+// The lines of a list's days from an entry on, with an edition's elements, as many as fit whole, at the front of the
+// buffer.
 pub fn lines(edition: u32, list: &[u8], from: usize, buffer: &mut [u8]) -> Piece
     ensures { λ r. ⌜ r ≡ ofEdition edition (linesPiece edition (now (list .entry)) from (length (now (buffer .entry)))) ⌝ }
     ensures { λ _. ⌜ now (buffer .exit) ≡ leftInEdition edition (now (buffer .entry)) (linesAfter edition (now (list .entry)) from (now (buffer .entry))) ⌝ }

@@ -1,4 +1,5 @@
-// Dates to days and days to dates, one case to a line: month ends of common and leap years on both sides of 1582, then single dates, then days.
+// Dates to days and days to dates, one case to a line: month ends of common and leap years on both sides of 1582, then
+// single dates, then days.
 use civil::Date;
 use days::refusal;
 

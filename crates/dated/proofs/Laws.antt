@@ -1,5 +1,6 @@
--- What a line names a day by, for a number that is a day's; and that it is short: the numbers of a date have few digits, since a year grows by at most one from
--- date to date, and a month and a day within it are bounded by the calendar. Assumes nothing.
+-- What a line names a day by, for a number that is a day's; and that it is short: the numbers of a date have few
+-- digits, since a year grows by at most one from date to date, and a month and a day within it are bounded by the
+-- calendar. Assumes nothing.
 use mathlib.Core.Path.{_≡_, refl}
 use mathlib.Core.Bool.{Bool, true, false, cond, _&&_, and-eq-true-iff}
 use mathlib.Core.List.{List, [], _∷_, _++_, append-assoc}

@@ -1,4 +1,5 @@
--- The laws of days and pairs: a number and its pair are one day, the weekday by the pair, and the step case by case; by arithmetic on 4016 C + A.
+-- The laws of days and pairs: a number and its pair are one day, the weekday by the pair, and the step case by case; by
+-- arithmetic on 4016 C + A.
 -- Assumes nothing.
 use mathlib.Core.Bool.{Bool, true, false, cond, _&&_, false≢true}
 use mathlib.Core.Path.{_≡_, refl, ap, _∙_}

@@ -49,7 +49,8 @@ unfoldable pub daysFrom : ℕ → ℕ → List ℕ
 daysFrom n zero = []
 daysFrom n (suc m) = n ∷ daysFrom (suc n) m
 
--- a refusal's number where the span from one day to another, both counted, is refused, and else another number: an end that is no day comes first
+-- a refusal's number where the span from one day to another, both counted, is refused, and else another number: an end
+-- that is no day comes first
 abbrev pub refusedSpanOr : ℕ → ℕ → ℕ → ℕ
 refusedSpanOr first last else = cond (leb first lastDay && leb last lastDay) (cond (leb first last) else lastBeforeFirst) outOfRange
 

@@ -5,7 +5,8 @@ ghost use mathlib.Core.Path.{_≡_};
 ghost use Rattle.days.specs.Days.{theNumber, noNumber, inRange, pairAt, dayOf, pairOf, numberOf, julianDayOf, weekdayOf, nextOf, spanRefusal};
 ghost use Rattle.days.specs.Weekdays.{bitOf, inSet};
 
-// A cycle from 0 to 99 and a day within it from 0 to 4015: paper 01's pair (C, A). Any other pair is refused wherever it is taken.
+// A cycle from 0 to 99 and a day within it from 0 to 4015: paper 01's pair (C, A). Any other pair is refused wherever
+// it is taken.
 pub struct Day {
     pub cycle: u32,
     pub within: u32,
@@ -205,7 +206,8 @@ pub fn span_refusal(first: u32, last: u32) -> u32
     }
 }
 
-// A weekday's bit in a set of weekdays, Monday's the lowest. A number that is no weekday has the bit behind the seven, which makes any set one that is refused.
+// A weekday's bit in a set of weekdays, Monday's the lowest. A number that is no weekday has the bit behind the seven,
+// which makes any set one that is refused.
 pub fn weekday_bit(weekday: u32) -> u32
     ensures { λ r. ⌜ r ≡ bitOf weekday ⌝ }
 {

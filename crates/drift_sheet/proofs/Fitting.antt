@@ -1,4 +1,5 @@
--- A line is put together from its parts and fits: a name has at most seven bytes, a number of 64 bits twenty digits, and a day with its date is short. Assumes nothing.
+-- A line is put together from its parts and fits: a name has at most seven bytes, a number of 64 bits twenty digits,
+-- and a day with its date is short. Assumes nothing.
 use mathlib.Core.List.{List, [], _∷_, _++_, append-assoc}
 use mathlib.Core.Path.{_≡_}
 use Prim.Native.Nat.{ℕ, _+_, _≤_, _<_}

@@ -1,4 +1,5 @@
--- Worked cases: the sheet of day 0, on which the books agree, and of each refusal. Both sides compute, so that `refl` proves them.
+-- Worked cases: the sheet of day 0, on which the books agree, and of each refusal. Both sides compute, so that `refl`
+-- proves them.
 -- Assumes nothing.
 use mathlib.Core.Path.{_≡_, refl}
 use mathlib.Core.List.{[], _∷_}

@@ -1,4 +1,5 @@
--- The sheet of the three drifts: from the bytes of the input to the bytes that are printed, a heading and a line for each of the three, or a refusal.
+-- The sheet of the three drifts: from the bytes of the input to the bytes that are printed, a heading and a line for
+-- each of the three, or a refusal.
 -- Assumes nothing.
 use mathlib.Core.Bool.{cond}
 use mathlib.Core.List.{List, [], _∷_, _++_}

@@ -1,4 +1,5 @@
--- Days that fail a test may be left out of a filtered run of days, at its front and at its end; by induction on the run.
+-- Days that fail a test may be left out of a filtered run of days, at its front and at its end; by induction on the
+-- run.
 -- Assumes nothing.
 use Prim.Native.Nat.{ℕ, zero, suc, _+_, _-_, _≤_, _<_}
 use mathlib.Core.Path.{_≡_, refl, sym, ap, ap₂, _∙_}

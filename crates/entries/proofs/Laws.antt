@@ -1,5 +1,5 @@
--- The entries of a list of days: four bytes each, one more entry written behind those that are there, and what was written read back; by
--- the lengths of the parts. Assumes nothing.
+-- The entries of a list of days: four bytes each, one more entry written behind those that are there, and what was
+-- written read back; by the lengths of the parts. Assumes nothing.
 use Prim.Native.Nat.{ℕ, zero, suc, _+_, _*_, _/_, _%_, _≤_, _<_}
 use mathlib.Core.Path.{_≡_, refl, ap, ap₂, sym, _∙_}
 use mathlib.Core.Bool.{Bool, true, false, cond}

@@ -1,4 +1,5 @@
--- Lists of days that ascend, so that each stands once; what a filtered run of days has; and runs that are joined. By induction on the days.
+-- Lists of days that ascend, so that each stands once; what a filtered run of days has; and runs that are joined. By
+-- induction on the days.
 -- Assumes nothing.
 use Prim.Native.Nat.{ℕ, zero, suc, _+_, _≤_, _<_}
 use mathlib.Core.Path.{_≡_, refl, ap, sym, subst, _∙_}

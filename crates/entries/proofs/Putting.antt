@@ -1,4 +1,5 @@
--- Entries put one after another from an entry on: all of them where there is room, and the first ones where there is not; by induction on the days.
+-- Entries put one after another from an entry on: all of them where there is room, and the first ones where there is
+-- not; by induction on the days.
 -- Assumes nothing.
 use Prim.Native.Nat.{ℕ, _+_, _*_, _≤_}
 use mathlib.Core.Path.{_≡_, refl, ap, ap₂, sym, _∙_}

@@ -1,4 +1,5 @@
--- A list of days as bytes: four a day, low byte first. A tail under four bytes is no entry (paper 01: no place of the lent list).
+-- A list of days as bytes: four a day, low byte first. A tail under four bytes is no entry (paper 01: no place of the
+-- lent list).
 -- Assumes nothing.
 use mathlib.Core.Bool.{cond}
 use mathlib.Core.List.{List, [], _∷_, _++_}

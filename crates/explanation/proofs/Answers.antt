@@ -1,4 +1,5 @@
--- The line for each case of the answer: a refusal's, or that of a day, since an answer that is not refused names an edition.
+-- The line for each case of the answer: a refusal's, or that of a day, since an answer that is not refused names an
+-- edition.
 -- Assumes nothing.
 use Prim.Native.Nat.{ℕ}
 use mathlib.Core.Path.{_≡_, sym, ap, _∙_}

@@ -1,4 +1,5 @@
--- The line fits: for a query that is not refused what each condition says where it does not hold is short, and so what is said of the first. By the list of the conditions.
+-- The line fits: for a query that is not refused what each condition says where it does not hold is short, and so what
+-- is said of the first. By the list of the conditions.
 -- Assumes nothing.
 use Prim.Native.Nat.{ℕ, _+_, _≤_, _<_}
 use mathlib.Core.Path.{_≡_, refl, sym, ap, _∙_}

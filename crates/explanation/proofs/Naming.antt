@@ -1,4 +1,5 @@
--- The names of a set's weekdays are put one after another: from each weekday on, its own name is put and then those from the next one on.
+-- The names of a set's weekdays are put one after another: from each weekday on, its own name is put and then those
+-- from the next one on.
 -- Assumes nothing.
 use Prim.Native.Nat.{ℕ, zero, suc, _+_, _<_}
 use mathlib.Core.Path.{_≡_, refl, sym}

@@ -1,4 +1,5 @@
--- How long the parts of a line are: the names of a set's weekdays with that of a day that is not among them, an angle. By the digits of each number.
+-- How long the parts of a line are: the names of a set's weekdays with that of a day that is not among them, an angle.
+-- By the digits of each number.
 -- Assumes nothing.
 use Prim.Native.Nat.{ℕ, zero, suc, _+_, _/_, _%_, _≤_, _<_}
 use mathlib.Core.Path.{_≡_, refl}

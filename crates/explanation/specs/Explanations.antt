@@ -1,4 +1,5 @@
--- The line that says why a day is not in a query's list, or that it fits. What stands behind `asked` is written as in a page.
+-- The line that says why a day is not in a query's list, or that it fits. What stands behind `asked` is written as in a
+-- page.
 -- Assumes nothing.
 use mathlib.Core.Bool.{cond}
 use mathlib.Core.List.{List, [], _∷_, _++_}

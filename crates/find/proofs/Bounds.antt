@@ -1,5 +1,5 @@
--- The days found are days, and the output's length is a number that a program can count to: at most a line for each day there is, and one for
--- the heading. Assumes nothing.
+-- The days found are days, and the output's length is a number that a program can count to: at most a line for each day
+-- there is, and one for the heading. Assumes nothing.
 use mathlib.Core.Path.{_≡_, ap}
 use mathlib.Core.Bool.{Bool, true, false, cond}
 use mathlib.Core.List.{List, [], _∷_}

@@ -1,5 +1,6 @@
--- What a search leaves for a query that is not refused: the two numbers of the heading, and, where the list has enough entries, the matching days
--- and no more in its first entries, each a day whose line fits. By the clauses of the search's promise. Assumes nothing.
+-- What a search leaves for a query that is not refused: the two numbers of the heading, and, where the list has enough
+-- entries, the matching days and no more in its first entries, each a day whose line fits. By the clauses of the
+-- search's promise. Assumes nothing.
 use mathlib.Core.Path.{_≡_, refl, ap, ap₂, sym, _∙_}
 use mathlib.Core.Bool.{Bool, true, false, cond}
 use mathlib.Core.List.{List}

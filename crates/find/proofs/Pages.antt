@@ -1,4 +1,5 @@
--- What is known of a page that was read: an accepted one has a query that is not refused, and the number of a line at fault is small. Assumes nothing.
+-- What is known of a page that was read: an accepted one has a query that is not refused, and the number of a line at
+-- fault is small. Assumes nothing.
 use mathlib.Core.Path.{_≡_, ap}
 use mathlib.Core.List.{List}
 use Prim.Native.Nat.{ℕ, _≤_, _<_}

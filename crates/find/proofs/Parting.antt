@@ -1,5 +1,6 @@
--- The loop of `print_parts`, and the whole span as its one turn: the output from the bytes written on is the lines of the days that are left of the
--- span; a part's list has its days and no more, and they are the first of those left, by the law of the parts. Assumes nothing.
+-- The loop of `print_parts`, and the whole span as its one turn: the output from the bytes written on is the lines of
+-- the days that are left of the span; a part's list has its days and no more, and they are the first of those left, by
+-- the law of the parts. Assumes nothing.
 use mathlib.Core.Path.{_≡_, refl, ap, sym, _∙_}
 use mathlib.Core.List.{List, [], _++_}
 use Prim.Native.Nat.{ℕ, _+_, _-_, _≤_, _<_}

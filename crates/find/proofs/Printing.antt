@@ -1,5 +1,5 @@
--- The loop of `print_days`: the output from the bytes written on begins with the lines that are still due, and a piece is the front of these, by
--- the law of the pieces. Assumes nothing.
+-- The loop of `print_days`: the output from the bytes written on begins with the lines that are still due, and a piece
+-- is the front of these, by the law of the pieces. Assumes nothing.
 use mathlib.Core.Bool.{true}
 use mathlib.Core.Path.{_≡_, refl, ap, sym, _∙_}
 use mathlib.Core.List.{List, _++_, append-assoc}

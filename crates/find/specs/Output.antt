@@ -30,7 +30,8 @@ front list n = take (4 * n) list
 abbrev pub frontDays : List ℕ → ℕ → List ℕ
 frontDays list n = listedFrom (front list n) 0
 
--- a list has n entries, their days' lines are the output's next bytes, and each line fits whole into a buffer of so many bytes
+-- a list has n entries, their days' lines are the output's next bytes, and each line fits whole into a buffer of so
+-- many bytes
 pub record NextDays (q : Query) (before : ℕ) (list : List ℕ) (n room : ℕ) : Type 0 where
   pub there : length (front list n) ≡ 4 * n
   pub next : NextBytes q before (dayLines (q .edition) (frontDays list n))

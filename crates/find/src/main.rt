@@ -17,7 +17,8 @@ ghost use Rattle.search.specs.Days.{matchingDays, visitedDays};
 ghost use Rattle.search.specs.Spans.{between};
 ghost use Rattle.find.specs.Output.{headingOf, outputOf, NextBytes, frontDays, NextDays};
 
-// With the page and the buffer a run keeps within 1 MiB of stack. A span with more matching days than the list has entries is searched part by part, with an entry for each day of a part.
+// With the page and the buffer a run keeps within 1 MiB of stack. A span with more matching days than the list has
+// entries is searched part by part, with an entry for each day of a part.
 const PART: u32 = 16384;
 
 const LIST: usize = entries::ENTRY_BYTES * PART as usize;
@@ -30,7 +31,8 @@ struct Written {
     whole: bool,
 }
 
-// The only way to write to standard output what was found. By what it requires these are the output's bytes behind those written before.
+// The only way to write to standard output what was found. By what it requires these are the output's bytes behind
+// those written before.
 fn write_next(query: Query, before: usize, bytes: &[u8]) -> bool
     requires { ⌜ NextBytes query before (now bytes) ⌝ }
 {
@@ -134,8 +136,8 @@ fn print_parts(query: Query, before: usize, list: &mut [u8], buffer: &mut [u8]) 
     }
 }
 
-// Where no write fails, all of the output is written. The heading has the number of matching days, so the whole span is searched before it, and where the list has
-// an entry for each of them they are listed already.
+// Where no write fails, all of the output is written. The heading has the number of matching days, so the whole span is
+// searched before it, and where the list has an entry for each of them they are listed already.
 fn print_found(query: Query, list: &mut [u8], buffer: &mut [u8]) -> Written
     requires { ⌜ (refusalOf query ≡ 0) × (65536 ≤ length (now list)) × (lineCapacity ≤ length (now buffer)) ⌝ }
     ensures { λ r. ⌜ (r .whole ≡ true → r .bytes ≡ length (outputOf query)) ⌝ }

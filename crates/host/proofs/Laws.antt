@@ -1,5 +1,6 @@
--- What `graha_day_result` hands back is the refusal of every call that takes a day: each answer is refused exactly past the last day, by cases on whether there is such a day. And the
--- host's query is a query as paper 01 has it, so the laws of `search/proofs/Single.antt` hold of its search.
+-- What `graha_day_result` hands back is the refusal of every call that takes a day: each answer is refused exactly past
+-- the last day, by cases on whether there is such a day. And the host's query is a query as paper 01 has it, so the
+-- laws of `search/proofs/Single.antt` hold of its search.
 -- Assumes nothing.
 use mathlib.Core.Bool.{true}
 use mathlib.Core.List.{_∷_}
@@ -25,7 +26,8 @@ use Rattle.host.specs.Calls.{onNumber}
 use Rattle.host.specs.HostQuery.{hostQuery}
 use Rattle.host.proofs.OnNumbers.{pair-past-last, on-number}
 
--- the answers for the day number n: its date, and what is reckoned from `pairAt n`, which the calls make of n also past the last day
+-- the answers for the day number n: its date, and what is reckoned from `pairAt n`, which the calls make of n also past
+-- the last day
 pub record Refused (n refusal : ℕ) : Type 0 where
   pub date : dateOfDay n .refusal ≡ refusal
   pub longitudes : longitudesOf (pairAt n) .refusal ≡ refusal

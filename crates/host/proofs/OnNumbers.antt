@@ -1,4 +1,5 @@
--- A number of a day's pair is the number of the day, by cases on whether there is such a day: past the last one its pair is out of range.
+-- A number of a day's pair is the number of the day, by cases on whether there is such a day: past the last one its
+-- pair is out of range.
 -- Assumes nothing.
 use mathlib.Core.Bool.{false}
 use mathlib.Core.Path.{_≡_, ap, _∙_}

@@ -1,4 +1,5 @@
-// The host program's calls: C functions on plain numbers and byte slices, each number of an answer by a call of its own.
+// The host program's calls: C functions on plain numbers and byte slices, each number of an answer by a call of its
+// own.
 mod calendar;
 mod orders;
 mod positions;

@@ -1,4 +1,5 @@
-// The orders for a table's arms, by the numbers of a day and a body: each number of an answer by a call of its own, an angle or a rate as a double.
+// The orders for a table's arms, by the numbers of a day and a body: each number of an answer by a call of its own, an
+// angle or a rate as a double.
 use arms::Arm;
 use arms::ArmAnswer;
 ghost use mathlib.Core.Path.{_≡_};

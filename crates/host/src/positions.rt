@@ -1,4 +1,6 @@
-// The numbers of a day, by its number: the weekday, mean longitudes in seconds of arc and the thirds behind them, true longitudes, and the panchanga elements; the Moon and what hangs on it are of the first edition. 0 where there is no such day.
+// The numbers of a day, by its number: the weekday, mean longitudes in seconds of arc and the thirds behind them, true
+// longitudes, and the panchanga elements; the Moon and what hangs on it are of the first edition. 0 where there is no
+// such day.
 use days::Day;
 use longitudes::Body;
 use panchanga::FIRST_EDITION;

@@ -2,8 +2,8 @@
 use libc::STDIN_FILENO;
 ghost use Rattle.io.specs.Counts.{Counts};
 
-// Reads until the buffer is full or the input ends, and hands back how many bytes it has. A read that fails counts as a full
-// buffer, so that no broken input passes for a whole one.
+// Reads until the buffer is full or the input ends, and hands back how many bytes it has. A read that fails counts as a
+// full buffer, so that no broken input passes for a whole one.
 pub fn read_input(buffer: &mut [u8]) -> usize
     ensures { λ r. ⌜ Counts r (now (buffer .exit)) ⌝ }
 {

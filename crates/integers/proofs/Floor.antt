@@ -1,4 +1,5 @@
--- `floorOver` is the greatest whole number not above z / q: f × q is z less a left-over below q. By the quotient and remainder of each sign.
+-- `floorOver` is the greatest whole number not above z / q: f × q is z less a left-over below q. By the quotient and
+-- remainder of each sign.
 -- Assumes nothing.
 use mathlib.Core.Path.{_≡_, sym, ap}
 use Prim.Native.Nat.{ℕ, suc, _+_, _*_, _-_, _/_, _%_, _<_}

@@ -1,4 +1,5 @@
--- `Less z a b`: z is a − b, for naturals a and b. Each operation on integers has a rule for it, so that an equation of integers becomes one of naturals.
+-- `Less z a b`: z is a − b, for naturals a and b. Each operation on integers has a rule for it, so that an equation of
+-- integers becomes one of naturals.
 -- Assumes nothing.
 use mathlib.Core.Path.{_≡_, refl, ap}
 use mathlib.Core.Bool.{Bool, true, false, cond}

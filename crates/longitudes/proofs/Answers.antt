@@ -1,4 +1,5 @@
--- The laws of a body's answer: for a day in range its longitude, for any other the refusal, by the one test of its definition; and its thirds.
+-- The laws of a body's answer: for a day in range its longitude, for any other the refusal, by the one test of its
+-- definition; and its thirds.
 -- Assumes nothing.
 use mathlib.Core.Bool.{Bool, true, false}
 use mathlib.Core.Path.{_≡_, refl, sym, ap, _∙_}

@@ -1,4 +1,5 @@
--- An array of n that is filled from the front: below i it is what is meant, each turn puts one more, and after n it is all of it.
+-- An array of n that is filled from the front: below i it is what is meant, each turn puts one more, and after n it is
+-- all of it.
 -- Assumes nothing.
 use borrow.Author.Count.{below-more}
 use mathlib.Core.List.{List}

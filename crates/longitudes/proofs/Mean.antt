@@ -1,4 +1,5 @@
--- The rule in naturals, once over K, D, p and q: whole circles are put on until nothing is negative, and the reduction takes them off again. And what seconds and remainder are together.
+-- The rule in naturals, once over K, D, p and q: whole circles are put on until nothing is negative, and the reduction
+-- takes them off again. And what seconds and remainder are together.
 -- Assumes nothing.
 use mathlib.Core.Path.{_≡_, ap, _∙_}
 use Prim.Native.Nat.{ℕ, suc, _+_, _*_, _-_, _/_, _%_, _≤_, _<_}

@@ -1,4 +1,5 @@
--- The node's rounding on two days, shown by computing: down, as of every body, where rounding towards zero or rounding A × p/q first gives a second more.
+-- The node's rounding on two days, shown by computing: down, as of every body, where rounding towards zero or rounding
+-- A × p/q first gives a second more.
 -- Assumes nothing.
 use mathlib.Core.Path.{_≡_, refl}
 use Prim.Native.Nat.{_-_}

@@ -1,5 +1,5 @@
--- The unrolled Sun: the seconds that the mean Sun has gone, not reduced. A cycle is eleven circles less 6551 seconds, so with 11 circles a cycle it never falls,
--- and how far it goes in some days is linear arithmetic.
+-- The unrolled Sun: the seconds that the mean Sun has gone, not reduced. A cycle is eleven circles less 6551 seconds,
+-- so with 11 circles a cycle it never falls, and how far it goes in some days is linear arithmetic.
 -- Assumes nothing.
 use mathlib.Core.Path.{_≡_, refl, sym, ap, _∙_}
 use mathlib.Core.Bool.{Bool, true, false}

@@ -1,4 +1,5 @@
--- The table: each row keeps to its ranges, shown by computing over the table once; and the nine longitudes of a day are its rows'.
+-- The table: each row keeps to its ranges, shown by computing over the table once; and the nine longitudes of a day are
+-- its rows'.
 -- Assumes nothing.
 use mathlib.Core.Path.{_≡_, refl}
 use mathlib.Core.List.{List, [], _∷_, map}

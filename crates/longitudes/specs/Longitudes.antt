@@ -1,4 +1,5 @@
--- The mean longitudes, paper 01's mean places: K − C × D + A × p/q, the greatest whole number not above it, reduced by whole circles; and what was left over, paper 02's part of a second.
+-- The mean longitudes, paper 01's mean places: K − C × D + A × p/q, the greatest whole number not above it, reduced by
+-- whole circles; and what was left over, paper 02's part of a second.
 -- Assumes nothing.
 use mathlib.Core.List.{List, [], _∷_, map}
 use Prim.Native.Nat.{ℕ, _*_, _/_}
@@ -15,7 +16,8 @@ circle = 1296000
 unfoldable pub differenceOf : ℕ → ℕ → ℕ
 differenceOf a b = reduced (pos a -ℤ pos b) circle
 
--- a row of the table: K the longitude at the epoch, D the cycle's amount, p / q the motion a day, p negative for a body that goes backwards
+-- a row of the table: K the longitude at the epoch, D the cycle's amount, p / q the motion a day, p negative for a body
+-- that goes backwards
 pub record Row : Type 0 where
   pub K : ℕ
   pub D : ℕ

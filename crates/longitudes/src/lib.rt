@@ -1,4 +1,5 @@
-// The mean longitudes of the nine bodies: paper 01's mean places, in whole seconds of arc, with paper 02's part of a second.
+// The mean longitudes of the nine bodies: paper 01's mean places, in whole seconds of arc, with paper 02's part of a
+// second.
 use days::Day;
 use days::NumberAnswer;
 use days::refusal;
@@ -40,7 +41,8 @@ pub const IN_ORDER: [Body; BODIES] = [
     Body::Saturn,
 ];
 
-// One body's: its whole seconds, and what was left over of the exact longitude, as a fraction of a second with this divisor. A refusal has all zeros.
+// One body's: its whole seconds, and what was left over of the exact longitude, as a fraction of a second with this
+// divisor. A refusal has all zeros.
 pub struct MeanLongitude {
     pub refusal: u32,
     pub seconds: u32,
@@ -153,7 +155,8 @@ pub fn difference(a: u32, b: u32) -> u32
     }
 }
 
-// K − C × D + A × p / q, with C and, for the node, A circles put on: C × (circle − D) and A × p forwards. What is rounded is not negative.
+// K − C × D + A × p / q, with C and, for the node, A circles put on: C × (circle − D) and A × p forwards. What is
+// rounded is not negative.
 fn longitude(body: usize, day: Day) -> MeanLongitude
     requires { ⌜ (body < 9) × (inRange day ≡ true) ⌝ }
     ensures { λ r. ⌜ r ≡ theLongitude body day ⌝ }

@@ -1,4 +1,5 @@
--- What is said of a page fits a line: each text is short, and the line's number has at most ten digits. Assumes nothing.
+-- What is said of a page fits a line: each text is short, and the line's number has at most ten digits. Assumes
+-- nothing.
 use mathlib.Core.Bool.{Bool, true, false, cond}
 use mathlib.Core.List.{List}
 use Prim.Native.Nat.{ℕ, _≤_, _<_}

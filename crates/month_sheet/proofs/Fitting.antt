@@ -1,4 +1,5 @@
--- What is printed for an input fits: its month's records are of days, whose numbers have few digits. So none of its lines is refused. Assumes nothing.
+-- What is printed for an input fits: its month's records are of days, whose numbers have few digits. So none of its
+-- lines is refused. Assumes nothing.
 use mathlib.Core.Bool.{Bool, true, false}
 use mathlib.Core.List.{List}
 use mathlib.Core.Path.{_≡_, refl, sym, ap, _∙_}

@@ -1,4 +1,5 @@
--- The lines of a month's sheet by refusal and index, and how many there are; and that a record's line is put together from its parts. Assumes nothing.
+-- The lines of a month's sheet by refusal and index, and how many there are; and that a record's line is put together
+-- from its parts. Assumes nothing.
 use mathlib.Core.List.{List, [], _∷_, _++_, map, append-assoc}
 use mathlib.Core.Path.{_≡_, refl, sym, ap, _∙_, subst}
 use Prim.Native.Nat.{ℕ, zero, suc, _-_, _≤_, _<_}

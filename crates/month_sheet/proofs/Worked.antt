@@ -1,4 +1,5 @@
--- Worked cases: two lines of records (paper 01's day 33649, and the last day), whose numbers were worked out apart with exact fractions, and an input for each refusal.
+-- Worked cases: two lines of records (paper 01's day 33649, and the last day), whose numbers were worked out apart with
+-- exact fractions, and an input for each refusal.
 -- Both sides compute, so that `refl` proves them. Assumes nothing.
 use mathlib.Core.Path.{_≡_, refl}
 use mathlib.Core.List.{[], _∷_}

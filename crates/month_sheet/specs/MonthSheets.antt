@@ -1,4 +1,5 @@
--- The sheet of a month: from the bytes of the input to the bytes that are printed, a heading and a line for each of thirty records, or a refusal.
+-- The sheet of a month: from the bytes of the input to the bytes that are printed, a heading and a line for each of
+-- thirty records, or a refusal.
 -- Assumes nothing.
 use mathlib.Core.Bool.{cond}
 use mathlib.Core.List.{List, [], _∷_, _++_, map}
@@ -27,7 +28,8 @@ trueColumns r = r .sun ∷ r .moon ∷ r .tithi ∷ r .nakshatra ∷ r .yoga ∷
 unfoldable pub recordBytes : DayRecord → List ℕ
 recordBytes r = digitsOf (r .day) ++ (spaced (r .weekday ∷ []) ++ (spaced (r .longitudes) ++ (spaced (trueColumns r) ++ ascii "\n")))
 
--- the line of a record, which may hold any numbers: whole, or refused for want of room. The law `lines-whole`: none of a month's is refused
+-- the line of a record, which may hold any numbers: whole, or refused for want of room. The law `lines-whole`: none of
+-- a month's is refused
 unfoldable pub recordLine : DayRecord → List ℕ
 recordLine r = wholeLine (recordBytes r)
 

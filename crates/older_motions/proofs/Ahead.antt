@@ -1,4 +1,5 @@
--- How far the mean longitude is ahead, in naturals, once over K, D, p, q, the circles and the days: whole circles are taken off each of the two before it is multiplied; and what a day of a cycle gains is what day 1 did.
+-- How far the mean longitude is ahead, in naturals, once over K, D, p, q, the circles and the days: whole circles are
+-- taken off each of the two before it is multiplied; and what a day of a cycle gains is what day 1 did.
 -- Assumes nothing.
 use mathlib.Core.Path.{_≡_, refl, ap, _∙_}
 use Prim.Native.Nat.{ℕ, suc, _+_, _*_, _-_, _/_, _%_, _<_}
@@ -13,7 +14,8 @@ use Rattle.longitudes.specs.Longitudes.{circle, exactTimesQ}
 use Rattle.longitudes.proofs.Mean.{row-of, exact-less}
 use Rattle.older_motions.specs.OlderMotions.{OlderMotion, wholeCircle, meanExact, olderExact, aheadOn}
 
--- of cycle C and day A within it: t and u circles are taken off the two, r and s are left, and x is what a circle has above the older one's
+-- of cycle C and day A within it: t and u circles are taken off the two, r and s are left, and x is what a circle has
+-- above the older one's
 circles-off :
     (K D E p q circles days C A n t r u s x W : ℕ) →
     W ≡ circle * (q * days) →

@@ -1,4 +1,5 @@
--- What is handed back for a span: no day of it is farther, the day has that distance, and no earlier day of the span has it; and nothing else is handed back that this holds of.
+-- What is handed back for a span: no day of it is farther, the day has that distance, and no earlier day of the span
+-- has it; and nothing else is handed back that this holds of.
 -- Assumes nothing.
 use mathlib.Core.Path.{_≡_, refl, sym}
 use Prim.Native.Nat.{ℕ, suc, _+_, _*_, _-_, _≤_, _<_}
@@ -11,7 +12,8 @@ use Rattle.older_motions.specs.OlderMotions.{OlderMotion, sunMotion, moo
 use Rattle.older_motions.specs.Drifts.{farthestOver, noDrifts, driftsOver}
 use Rattle.older_motions.proofs.Peaks.{Peak, peak-of, peak-most, peak-day}
 
--- THE LAWS of an answer: of the distances from the first day to the last, the numerator is the largest, and the day the first that has it
+-- THE LAWS of an answer: of the distances from the first day to the last, the numerator is the largest, and the day the
+-- first that has it
 pub farthest-peak : (m : OlderMotion) (first last : ℕ) → first ≤ last → Peak (distanceOn m) first last (farthestOver m first last .numerator) (farthestOver m first last .day)
 unfolding farthestOver
 farthest-peak m first last h =

@@ -1,4 +1,5 @@
--- The largest value over a span and the first day that has it, told by what holds of them: no day is above it, that day has it, and no earlier one does. Only one value and one day do.
+-- The largest value over a span and the first day that has it, told by what holds of them: no day is above it, that day
+-- has it, and no earlier one does. Only one value and one day do.
 -- Assumes nothing.
 use mathlib.Core.Path.{_≡_, refl, ap, sym}
 use mathlib.Core.Bool.{Bool, true, false}

@@ -1,4 +1,5 @@
--- What the code reckons of a row fits 64 bits, since whole circles are taken off before anything is multiplied by a circle: nothing comes to 2.5 × 10^17. And from one day of a cycle to the next it is what day 1 gained.
+-- What the code reckons of a row fits 64 bits, since whole circles are taken off before anything is multiplied by a
+-- circle: nothing comes to 2.5 × 10^17. And from one day of a cycle to the next it is what day 1 gained.
 -- Assumes nothing.
 use mathlib.Core.Path.{_≡_, ap, sym, _∙_}
 use Prim.Native.Nat.{ℕ, _+_, _*_, _-_, _/_, _%_, _≤_, _<_}

@@ -1,4 +1,5 @@
--- What holds along the loop over the days: what was found so far is the peak of the days so far, and how far ahead the last of them is. Assumes nothing.
+-- What holds along the loop over the days: what was found so far is the peak of the days so far, and how far ahead the
+-- last of them is. Assumes nothing.
 use mathlib.Core.Path.{_≡_, sym, _∙_}
 use Prim.Native.Nat.{ℕ, _+_, _≤_, _<_}
 use native.Mathlib.Omega.{arith}

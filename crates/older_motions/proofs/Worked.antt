@@ -1,4 +1,5 @@
--- Worked cases, by computing the meaning: day 0, on which the books agree; a cycle's turn, where the Moon and its apogee come nearer and the Sun goes on; the last day; and each refusal.
+-- Worked cases, by computing the meaning: day 0, on which the books agree; a cycle's turn, where the Moon and its
+-- apogee come nearer and the Sun goes on; the last day; and each refusal.
 -- Assumes nothing.
 use mathlib.Core.Path.{_≡_, refl}
 use mathlib.Core.List.{[], _∷_}

@@ -1,4 +1,5 @@
--- What is handed back: for each of the three the largest distance over the days of a span and the first day that has it; or the span's refusal, and all zeros.
+-- What is handed back: for each of the three the largest distance over the days of a span and the first day that has
+-- it; or the span's refusal, and all zeros.
 -- Assumes nothing.
 use mathlib.Core.Bool.{cond}
 use mathlib.Core.List.{List}

@@ -1,4 +1,5 @@
--- The older books' motions of the Sun, the Moon and the Moon's apogee (document 000), from the same longitudes at the epoch, and how far the exact mean longitudes are from them (paper 02, L12).
+-- The older books' motions of the Sun, the Moon and the Moon's apogee (document 000), from the same longitudes at the
+-- epoch, and how far the exact mean longitudes are from them (paper 02, L12).
 -- Every longitude is counted in parts of a second, so many to the second as the divisor says: nothing is rounded.
 -- Assumes nothing.
 use mathlib.Core.Bool.{true, false}

@@ -1,4 +1,5 @@
-// How far the mean longitudes of the Sun, the Moon and the Moon's apogee are from the older books' motions: paper 02's drift, without a decimal.
+// How far the mean longitudes of the Sun, the Moon and the Moon's apogee are from the older books' motions: paper 02's
+// drift, without a decimal.
 use days::Day;
 use days::refusal;
 use longitudes::CIRCLE;
@@ -55,7 +56,8 @@ const APOGEE: CodedMotion = CodedMotion {
     days: 1577917828,
 };
 
-// Forwards on a circle of so many parts. The rest of the circle does not wait for the place, as a sum to be tested would: the loop below is faster by a quarter.
+// Forwards on a circle of so many parts. The rest of the circle does not wait for the place, as a sum to be tested
+// would: the loop below is faster by a quarter.
 fn forwards(from: u64, by: u64, circle: u64) -> u64
     requires { ⌜ (from < circle) × (by ≤ circle) ⌝ }
     ensures { λ r. ⌜ r ≡ (from + by) % circle ⌝ }
@@ -79,7 +81,8 @@ fn whole_circle(motion: CodedMotion) -> u64
     CIRCLE as u64 * divisor
 }
 
-// Whole circles are taken off each of the two before it is brought to parts of a second, so that both stay below a circle. K is in both.
+// Whole circles are taken off each of the two before it is brought to parts of a second, so that both stay below a
+// circle. K is in both.
 fn ahead_on(motion: CodedMotion, day: u32) -> u64
     requires { ⌜ (Sizes motion) × (day ≤ lastDay) ⌝ }
     ensures { λ r. ⌜ r ≡ aheadOn (motionOf motion) day ⌝ }

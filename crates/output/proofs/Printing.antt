@@ -1,4 +1,5 @@
--- Along the loop that prints a sheet, a line that was put into the buffer waits there behind the others. Assumes nothing.
+-- Along the loop that prints a sheet, a line that was put into the buffer waits there behind the others. Assumes
+-- nothing.
 use mathlib.Core.List.{List}
 use mathlib.Core.Path.{_≡_, ap, sym, subst, _∙_}
 use Prim.Native.Nat.{ℕ, _+_, _≤_, _<_}

@@ -1,4 +1,5 @@
--- A page has no more lines than bytes and one, so the line at fault is among the first so many: by induction on the bytes, then on the lines.
+-- A page has no more lines than bytes and one, so the line at fault is among the first so many: by induction on the
+-- bytes, then on the lines.
 -- Assumes nothing.
 use mathlib.Core.Path.{_≡_, refl}
 use mathlib.Core.Bool.{Bool, true, false, cond}

@@ -1,4 +1,5 @@
--- Worked pages: what their texts mean by the grammar, and what is right. Both sides compute, so that `refl` proves them.
+-- Worked pages: what their texts mean by the grammar, and what is right. Both sides compute, so that `refl` proves
+-- them.
 -- Assumes nothing.
 use mathlib.Core.Path.{_≡_, refl}
 use mathlib.Core.Bool.{true}

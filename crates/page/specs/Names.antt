@@ -1,4 +1,5 @@
--- The words that a line begins with: the span, the weekday, the elements, the edition, and the bodies in paper 01's order.
+-- The words that a line begins with: the span, the weekday, the elements, the edition, and the bodies in paper 01's
+-- order.
 -- Assumes nothing.
 use mathlib.Core.List.{List, [], _∷_, _++_}
 use Prim.Native.Nat.{ℕ}

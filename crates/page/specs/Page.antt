@@ -91,7 +91,8 @@ withCondition q k v =
       arcs = cond (leb arcKeywords k) (set (q .arcs) (k - arcKeywords) (v .arcs)) (q .arcs);
     }
 
--- the order of refusals: the edition's, a malformed line, a date that does not exist, then as in the search; accepted is last
+-- the order of refusals: the edition's, a malformed line, a date that does not exist, then as in the search; accepted
+-- is last
 unfoldable pub rankOf : ℕ → ℕ
 rankOf r =
     cond (eqb r badEdition) 0
@@ -144,8 +145,8 @@ valuesRead k t =
     (cond (ltb k arcKeywords) (numbersRead (firstValue k (firstWord t)) (secondValue k (firstWord (afterWord t))))
     (arcsRead (arcRead (firstWord t) (firstWord (afterWord t))) (secondArcRead (firstWord (afterWords 2 t)) (firstWord (afterWords 3 t)))))
 
--- why a line is malformed: no such keyword; too many values; a value missing, malformed or one too many; a keyword of an
--- earlier line; no newline at the end
+-- why a line is malformed: no such keyword; too many values; a value missing, malformed or one too many; a keyword of
+-- an earlier line; no newline at the end
 abbrev pub unknownWord : ℕ
 unknownWord = 1
 
@@ -193,7 +194,8 @@ firstFault f g = cond (ranksBefore (g .refusal) (f .refusal)) g f
 abbrev pub withFault : Page → Fault → Page
 withFault p f = record { fault = firstFault (p .fault) f; present = p .present; query = p .query }
 
--- the page with one more line, the nth: each keyword once. A line that repeats one is malformed, unless it has a refusal that comes first
+-- the page with one more line, the nth: each keyword once. A line that repeats one is malformed, unless it has a
+-- refusal that comes first
 unfoldable pub withLine : Page → ℕ → LineRead → Page
 withLine p n l =
     cond (leb keywordCount (l .keyword)) (withFault p (record { refusal = l .refusal; reason = l .reason; line = n }))

@@ -26,7 +26,8 @@ ghost use Rattle.words.specs.Words.{placeIn};
 ghost use Rattle.page.specs.Names.{keywords};
 ghost use Rattle.page.specs.Page.{keywordCount, onlySpan, noValues, withCondition, rankOf, ranksBefore, firstRefusal, firstValue, secondValue, numbersRead, arcRead, secondArcRead, arcsRead, mostValues, valuesRead, malformedLine, conditionRead, lineRead, firstFault, withFault, withLine, emptyPage, pageAnswer, pageRead};
 
-// The words that a line begins with, and behind them the names of the bodies; each is known by its place among them all.
+// The words that a line begins with, and behind them the names of the bodies; each is known by its place among them
+// all.
 const CONDITIONS: [u8; 41] = *b"span weekday tithi nakshatra yoga edition";
 
 const SPAN: usize = 0;
@@ -58,8 +59,8 @@ pub const REPEATED_WORD: u32 = 4;
 
 pub const NOT_ENDED: u32 = 5;
 
-// A page that has been read: the refusal's number, or 0, why a line is malformed, the line at fault, counted from 1, and the
-// query. A refusal has a query of all zeros.
+// A page that has been read: the refusal's number, or 0, why a line is malformed, the line at fault, counted from 1,
+// and the query. A refusal has a query of all zeros.
 pub struct PageRead {
     pub refusal: u32,
     pub reason: u32,
@@ -67,7 +68,8 @@ pub struct PageRead {
     pub query: Query,
 }
 
-// The values of a line that have been read: two numbers, of which a set of weekdays is the first, or a body's arcs. A refusal has all zeros.
+// The values of a line that have been read: two numbers, of which a set of weekdays is the first, or a body's arcs. A
+// refusal has all zeros.
 struct Values {
     refusal: u32,
     first: u32,

@@ -1,4 +1,5 @@
--- The laws of what is handed back for an edition and a day: given where there is no refusal, and else refused; by the two tests in their order.
+-- The laws of what is handed back for an edition and a day: given where there is no refusal, and else refused; by the
+-- two tests in their order.
 -- Assumes nothing.
 use mathlib.Core.Bool.{Bool, true, false, cond}
 use mathlib.Core.Path.{_≡_, refl, ap, _∙_}

@@ -1,4 +1,5 @@
--- How far the two editions' Moons are apart: the addition is at most 290 seconds, since the Sun's equation is largest at the quarter; and where that equation is below 27 there is none.
+-- How far the two editions' Moons are apart: the addition is at most 290 seconds, since the Sun's equation is largest
+-- at the quarter; and where that equation is below 27 there is none.
 -- Assumes nothing.
 use mathlib.Core.Bool.{Bool, true, false, cond}
 use mathlib.Core.Logic.{_⊎_, inl, inr}

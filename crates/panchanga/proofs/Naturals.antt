@@ -1,4 +1,5 @@
--- Corrections and equations in naturals, as the code reckons them: a circle is put on before an equation is subtracted, and Q needs no quarters.
+-- Corrections and equations in naturals, as the code reckons them: a circle is put on before an equation is subtracted,
+-- and Q needs no quarters.
 -- Assumes nothing.
 use mathlib.Core.Path.{_≡_}
 use Prim.Native.Nat.{ℕ, _+_, _*_, _-_, _/_, _%_, _≤_, _<_}

@@ -1,4 +1,5 @@
--- True longitudes and panchanga elements of a day (paper 01's true places and limbs), and what is handed back of them. What hangs on the Moon is of an edition.
+-- True longitudes and panchanga elements of a day (paper 01's true places and limbs), and what is handed back of them.
+-- What hangs on the Moon is of an edition.
 -- Assumes nothing.
 use mathlib.Core.Bool.{cond}
 use Prim.Native.Nat.{ℕ}

@@ -1,4 +1,5 @@
--- What only contracts of private functions speak of: the Moon of a day before its edition is asked for, and the refusal of a call for an edition and a day.
+-- What only contracts of private functions speak of: the Moon of a day before its edition is asked for, and the refusal
+-- of a call for an edition and a day.
 -- Assumes nothing.
 use mathlib.Core.Bool.{cond}
 use Prim.Native.Nat.{ℕ}

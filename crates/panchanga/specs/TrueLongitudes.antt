@@ -1,5 +1,5 @@
--- The true Sun and Moon of the mean ones: the mean longitude with its equation, and the Moon's by two editions. The true
--- longitudes are paper 01's true places.
+-- The true Sun and Moon of the mean ones: the mean longitude with its equation, and the Moon's by two editions. The
+-- true longitudes are paper 01's true places.
 -- Assumes nothing.
 use mathlib.Core.Bool.{Bool, cond, _||_}
 use Prim.Native.Nat.{ℕ, _*_, _-_, _/_}

@@ -1,4 +1,5 @@
-// The true Sun and Moon, and the panchanga elements of a day: paper 01's limbs. What hangs on the Moon is of an edition, paper 01's rule or paper 02's second one.
+// The true Sun and Moon, and the panchanga elements of a day: paper 01's limbs. What hangs on the Moon is of an
+// edition, paper 01's rule or paper 02's second one.
 use days::Day;
 use days::NumberAnswer;
 use days::refusal;
@@ -60,7 +61,8 @@ pub fn is_edition(number: u32) -> bool
     number == SECOND_EDITION
 }
 
-// An anomaly less the half circle, where it is past it. Q is the same for s and 648000 − s, so the quarters need not be told apart.
+// An anomaly less the half circle, where it is past it. Q is the same for s and 648000 − s, so the quarters need not be
+// told apart.
 fn in_half(anomaly: u32) -> u32
     requires { ⌜ anomaly < 1296000 ⌝ }
     ensures { λ r. ⌜ (bhujaProduct r ≡ bhujaProduct (bhuja anomaly)) × (r ≤ 648000) ⌝ }
@@ -139,7 +141,8 @@ fn moon_alone_on(day: Day) -> u32
     true_longitude(MOON_SCALE, MOON_DIVISOR, apogee, mean)
 }
 
-// An edition's Moon, of the Moon with its own equation. (That comes as a parameter, so that the compiler lays its reckoning open in each call and leaves this out, which edition 1 does not need.)
+// An edition's Moon, of the Moon with its own equation. (That comes as a parameter, so that the compiler lays its
+// reckoning open in each call and leaves this out, which edition 1 does not need.)
 fn moon_on(edition: u32, moon: u32, day: Day) -> u32
     requires { ⌜ (inRange day ≡ true) × ((moon ≡ moonAloneAt day) × (moon < 1296000)) ⌝ }
     ensures { λ r. ⌜ (r ≡ trueMoonAt edition day) × (r < 1296000) ⌝ }

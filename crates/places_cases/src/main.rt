@@ -1,4 +1,5 @@
-// The mean longitudes, true places and elements of some days, one day a line: the single calls behind the calls for all at once.
+// The mean longitudes, true places and elements of some days, one day a line: the single calls behind the calls for all
+// at once.
 // The expected lines were reckoned apart, with exact fractions.
 use days::Day;
 use days::NumberAnswer;
@@ -8,7 +9,8 @@ use longitudes::MeanLongitude;
 
 const COUNT: usize = 24;
 
-// The first and the last days, both sides of three cycle turns, half tithis 0 and 56 to 59, anomalies at and next to a quarter's end, places that pass 0, and a day past the last.
+// The first and the last days, both sides of three cycle turns, half tithis 0 and 56 to 59, anomalies at and next to a
+// quarter's end, places that pass 0, and a day past the last.
 const CASES: [u32; COUNT] = [
     0,
     9,

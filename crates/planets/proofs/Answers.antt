@@ -1,4 +1,5 @@
--- A planet of a day is what the mean Sun and its own number among the nine bodies give; and the laws of the five together.
+-- A planet of a day is what the mean Sun and its own number among the nine bodies give; and the laws of the five
+-- together.
 -- Assumes nothing.
 use mathlib.Core.Bool.{Bool, true, false, cond}
 use mathlib.Core.Path.{_≡_, refl}

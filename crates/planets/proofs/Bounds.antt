@@ -1,4 +1,5 @@
--- Each correction is at most its row's largest entry, and each true longitude below a circle; the largest entries are computed over the tables once.
+-- Each correction is at most its row's largest entry, and each true longitude below a circle; the largest entries are
+-- computed over the tables once.
 -- Assumes nothing.
 use mathlib.Core.List.{[], _∷_, map}
 use mathlib.Core.Path.{_≡_, refl}

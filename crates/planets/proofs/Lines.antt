@@ -1,4 +1,5 @@
--- The straight line: at an entry it is the entry, between two it is not above the larger, and what the code reckons is the same fraction in smaller numbers.
+-- The straight line: at an entry it is the entry, between two it is not above the larger, and what the code reckons is
+-- the same fraction in smaller numbers.
 -- Assumes nothing.
 use mathlib.Core.List.{[], _∷_}
 use mathlib.Core.Path.{_≡_, ap}

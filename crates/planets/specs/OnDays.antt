@@ -22,7 +22,8 @@ use Rattle.planets.specs.Steps.{truePlanet}
 abbrev pub isInner : ℕ → Bool
 isInner p = eqb p 1 || eqb p 3
 
--- of the mean Sun and what the nine bodies have of the planet, its mean place or its mean anomaly: the mean planet, for Mercury and Venus the mean Sun
+-- of the mean Sun and what the nine bodies have of the planet, its mean place or its mean anomaly: the mean planet, for
+-- Mercury and Venus the mean Sun
 unfoldable pub meanPlanet : ℕ → ℕ → ℕ → ℕ
 meanPlanet p sun own = cond (isInner p) sun own
 

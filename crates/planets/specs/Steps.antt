@@ -1,4 +1,5 @@
--- A planet's true longitude: paper 02's steps in their order, a definition a step. The planet is what the tables have of it.
+-- A planet's true longitude: paper 02's steps in their order, a definition a step. The planet is what the tables have
+-- of it.
 -- Assumes nothing.
 use mathlib.Core.Bool.{cond}
 use Prim.Native.Nat.{ℕ, _-_, _/_}

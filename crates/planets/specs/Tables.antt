@@ -1,4 +1,5 @@
--- Paper 02's tables of the five planets, in the order Mars, Mercury, Jupiter, Venus, Saturn, and the straight line between their entries.
+-- Paper 02's tables of the five planets, in the order Mars, Mercury, Jupiter, Venus, Saturn, and the straight line
+-- between their entries.
 -- Assumes nothing.
 use mathlib.Core.List.{List, [], _∷_}
 use Prim.Native.Nat.{ℕ, _+_, _*_, _-_, _/_, _%_, max}
@@ -47,7 +48,8 @@ pub record PlanetRow : Type 0 where
 unfoldable pub rowOf : ℕ → PlanetRow
 rowOf p = record { sighra = getD sighraTable p []; manda = getD mandaTable p []; apogee = getD planetApogees p 0 }
 
--- the exact straight line from an entry to the next, so many seconds behind the first, rounded down to a second: each counts by how near it is
+-- the exact straight line from an entry to the next, so many seconds behind the first, rounded down to a second: each
+-- counts by how near it is
 unfoldable pub onLine : ℕ → ℕ → ℕ → ℕ
 onLine entry next past = (entry * (spacing - past) + next * past) * tenth / spacing
 

@@ -1,4 +1,5 @@
-// The true longitudes of the five star planets: paper 02's steps, half the śīghra correction, the manda correction and the whole śīghra correction, by its tables.
+// The true longitudes of the five star planets: paper 02's steps, half the śīghra correction, the manda correction and
+// the whole śīghra correction, by its tables.
 use days::Day;
 use days::NumberAnswer;
 use days::refusal;
@@ -62,7 +63,8 @@ const MANDA: [[u16; 7]; PLANETS] = [
 
 const APOGEES: [u32; PLANETS] = [432000, 756000, 648000, 324000, 864000];
 
-// A row's size at an arc: the straight line between two entries, each counted by how near it is. (Fifteen degrees have 150 times the seconds of a tenth of a degree.)
+// A row's size at an arc: the straight line between two entries, each counted by how near it is. (Fifteen degrees have
+// 150 times the seconds of a tenth of a degree.)
 fn on_line(row: &[u16], arc: u32) -> u32
     requires { ⌜ (arc + 54000 ≤ 54000 * length (now row)) × (largest (now row) ≤ 461) ⌝ }
     ensures { λ r. ⌜ (r ≡ straightLine (now (row .entry)) arc) × (r ≤ 165960) ⌝ }

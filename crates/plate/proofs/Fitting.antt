@@ -1,4 +1,5 @@
--- What is printed is put together from its parts and fits a line: the longest name has seven bytes, and each number few digits. Assumes nothing.
+-- What is printed is put together from its parts and fits a line: the longest name has seven bytes, and each number few
+-- digits. Assumes nothing.
 use mathlib.Core.List.{List, [], _∷_, _++_, append-assoc}
 use mathlib.Core.Path.{_≡_}
 use Prim.Native.Nat.{ℕ, _/_, _%_, _≤_, _<_}

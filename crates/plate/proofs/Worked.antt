@@ -1,4 +1,5 @@
--- Worked cases: the plate of day 0, whose longitudes are the epoch's and whole, and an input for each refusal. Both sides compute, so that `refl` proves them.
+-- Worked cases: the plate of day 0, whose longitudes are the epoch's and whole, and an input for each refusal. Both
+-- sides compute, so that `refl` proves them.
 -- Assumes nothing.
 use mathlib.Core.Path.{_≡_, refl}
 use mathlib.Core.List.{[], _∷_}

@@ -1,4 +1,5 @@
--- The engravers' plate: from the bytes of the input to the bytes that are printed, a heading and a line for each body, or a refusal.
+-- The engravers' plate: from the bytes of the input to the bytes that are printed, a heading and a line for each body,
+-- or a refusal.
 -- Assumes nothing.
 use mathlib.Core.Bool.{cond}
 use mathlib.Core.List.{List, [], _∷_, _++_}

@@ -1,4 +1,5 @@
--- A text that is accepted: its day is one, and its query is not refused; and the line at fault of one that is not. By the tests in their order.
+-- A text that is accepted: its day is one, and its query is not refused; and the line at fault of one that is not. By
+-- the tests in their order.
 -- Assumes nothing.
 use mathlib.Core.Bool.{Bool, true, false, cond}
 use mathlib.Core.List.{List}

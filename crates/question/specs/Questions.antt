@@ -42,7 +42,8 @@ noQuestion refusal reason line = record { refusal = refusal; reason = reason; li
 abbrev pub pageFault : PageRead → Question
 pageFault page = noQuestion (page .refusal) (page .reason) (page .line + 1)
 
--- the first line and the page together: of two faults the one whose refusal comes first in a page's order, of two alike the first line's
+-- the first line and the page together: of two faults the one whose refusal comes first in a page's order, of two alike
+-- the first line's
 unfoldable pub askedBy : FirstLine → PageRead → Question
 askedBy first page =
     cond (eqb (first .refusal) accepted)

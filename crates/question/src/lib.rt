@@ -16,8 +16,8 @@ ghost use mathlib.Core.Path.{_≡_};
 ghost use Prim.Native.Nat.{_<_};
 ghost use Rattle.question.specs.Questions.{dayInRange, dayLineRead, dayOrFault, firstLineRead, noQuestion, askedBy, questionRead};
 
-// A text that has been read: the refusal's number, or 0, why a line is malformed, the line at fault, counted from 1, as of a page; the day and
-// the query. A refusal has a day and a query of all zeros.
+// A text that has been read: the refusal's number, or 0, why a line is malformed, the line at fault, counted from 1, as
+// of a page; the day and the query. A refusal has a day and a query of all zeros.
 pub struct Question {
     pub refusal: u32,
     pub reason: u32,

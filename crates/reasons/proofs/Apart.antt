@@ -1,4 +1,5 @@
--- The promise fixes the answer: from the numbers of a reason the reason comes back, so no two answers have the numbers that a question is to have.
+-- The promise fixes the answer: from the numbers of a reason the reason comes back, so no two answers have the numbers
+-- that a question is to have.
 -- Assumes nothing.
 use Prim.Native.Nat.{ℕ, _+_, _-_}
 use mathlib.Core.Path.{_≡_, refl, sym, ap, ap₂, _∙_}

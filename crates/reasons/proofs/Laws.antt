@@ -1,5 +1,6 @@
--- The laws of the reason: the condition that is named does not hold, all before it in the order do, and a day fits if and only if the search lists it. By induction
--- on the conditions, and since all of them together are what makes a day match.
+-- The laws of the reason: the condition that is named does not hold, all before it in the order do, and a day fits if
+-- and only if the search lists it. By induction on the conditions, and since all of them together are what makes a day
+-- match.
 -- Assumes nothing.
 use Prim.Native.Nat.{ℕ, _≤_}
 use mathlib.Core.Path.{_≡_, refl, sym, ap, _∙_}

@@ -15,7 +15,8 @@ use Rattle.reasons.specs.declared.Reason.{Reason}
 use Rattle.reasons.specs.declared.Reason.the-variants.{Fits, BeforeSpan, AfterSpan, Weekday, Tithi, Nakshatra, Yoga, Arcs}
 use Rattle.reasons.specs.Conditions.{Cause, noCause, arcNumbers, conditionsOn, firstUnmet}
 
--- why the question is refused, or 0: the edition's 14 first, then 2 for the day, then as the query is: 2 for an end of the span, 5 and 6
+-- why the question is refused, or 0: the edition's 14 first, then 2 for the day, then as the query is: 2 for an end of
+-- the span, 5 and 6
 unfoldable pub refusalOn : Query → ℕ → ℕ
 refusalOn q n = cond (isEdition (q .edition)) (cond (leb n lastDay) (refusalOf q) outOfRange) badEdition
 
@@ -29,7 +30,8 @@ pub record Numbers : Type 0 where
 abbrev pub noAnswer : ℕ → Numbers
 noAnswer refusal = record { refusal = refusal; edition = 0; cause = noCause }
 
--- WHY DAY n IS NOT IN THE LIST: the first of the conditions, in their order, that does not hold; or none, and the day fits
+-- WHY DAY n IS NOT IN THE LIST: the first of the conditions, in their order, that does not hold; or none, and the day
+-- fits
 unfoldable pub whyOf : Query → ℕ → Numbers
 whyOf q n =
     cond (eqb (refusalOn q n) accepted) (record { refusal = accepted; edition = q .edition; cause = firstUnmet (conditionsOn q n) }) (noAnswer (refusalOn q n))

@@ -19,8 +19,9 @@ ghost use Rattle.reasons.specs.Conditions.{everyBody, arcConditions, con
 ghost use Rattle.reasons.specs.Reasons.{refusalOn, whyOf, causeOf, numbersOf};
 ghost use Rattle.reasons.specs.Parts.{TestedFor};
 
-// What shuts a day out, with the value asked and the value found: the end of the span that was passed and the day; the set of weekdays and the day's; the number asked and the
-// day's; a body's arcs, by its number, and its mean longitude. Or the day fits.
+// What shuts a day out, with the value asked and the value found: the end of the span that was passed and the day; the
+// set of weekdays and the day's; the number asked and the day's; a body's arcs, by its number, and its mean longitude.
+// Or the day fits.
 pub enum Reason {
     Fits,
     BeforeSpan {
@@ -164,7 +165,8 @@ fn unmet_arcs(arcs: [BodyArcs; 9], day: Day) -> Reason
     Reason::Fits
 }
 
-// The first condition that a day does not meet, in paper 02's order. Each is tested only where those before it hold, so nothing is reckoned behind it.
+// The first condition that a day does not meet, in paper 02's order. Each is tested only where those before it hold, so
+// nothing is reckoned behind it.
 fn first_unmet(query: Query, day: u32) -> Reason
     requires { ⌜ (day ≤ lastDay) × (isEdition (query .edition) ≡ true) ⌝ }
     ensures { λ r. ⌜ causeOf r ≡ firstUnmet (conditionsOn query day) ⌝ }
@@ -214,7 +216,8 @@ fn first_unmet(query: Query, day: u32) -> Reason
     unmet_arcs(arcs, pair)
 }
 
-// The refusal of the question, or 0: the edition's, then the day's, then what else the query is refused for, as of a look.
+// The refusal of the question, or 0: the edition's, then the day's, then what else the query is refused for, as of a
+// look.
 fn refusal_on(query: Query, day: u32) -> u32
     ensures { λ r. ⌜ r ≡ refusalOn query day ⌝ }
 {

@@ -1,4 +1,5 @@
--- The answers case by case: another edition, a day out of range, and else the records; and the test over all records, day by day.
+-- The answers case by case: another edition, a day out of range, and else the records; and the test over all records,
+-- day by day.
 -- Assumes nothing.
 use mathlib.Core.Path.{_≡_, refl, ap}
 use mathlib.Core.Bool.{Bool, true, false, _&&_}

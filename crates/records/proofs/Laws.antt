@@ -1,5 +1,5 @@
--- What paper 02 asks of records filled together: each ends as the single call leaves it, whichever stand beside it; its day stays; with a refusal none is touched;
--- and a month is thirty records filled together.
+-- What paper 02 asks of records filled together: each ends as the single call leaves it, whichever stand beside it; its
+-- day stays; with a refusal none is touched; and a month is thirty records filled together.
 -- Assumes nothing.
 use mathlib.Core.Path.{_≡_, refl, sym, ap, _∙_}
 use mathlib.Core.Bool.{Bool, true, false, cond, _&&_, true≢false}

@@ -1,4 +1,5 @@
--- The thirty days from a first one on: how many they are, which stands where, and that all of them are in range where the last one is.
+-- The thirty days from a first one on: how many they are, which stands where, and that all of them are in range where
+-- the last one is.
 -- Assumes nothing.
 use mathlib.Core.Path.{_≡_, refl, sym, ap, _∙_}
 use mathlib.Core.Bool.{true, false}

@@ -1,4 +1,5 @@
--- A list of which the first i entries are filled by f, entry by entry: at i = 0 the list as it was, at its length all of it filled.
+-- A list of which the first i entries are filled by f, entry by entry: at i = 0 the list as it was, at its length all
+-- of it filled.
 -- Laws on lists, with no program in them. Assumes nothing.
 use mathlib.Core.Path.{_≡_, refl, sym, ap}
 use mathlib.Core.List.{List, [], _∷_, map}

@@ -61,7 +61,8 @@ filledAfter e xs = cond (eqb (fillRefusal e xs) accepted) (map (λ (x : DayRecor
 abbrev pub noMonth : ℕ → Month
 noMonth r = record { refusal = r; records = replicate 30 noRecord }
 
--- THIRTY RECORDS from day n on; refusal 14 for another edition, then 2 where one of the days is out of range, with all zeros
+-- THIRTY RECORDS from day n on; refusal 14 for another edition, then 2 where one of the days is out of range, with all
+-- zeros
 unfoldable pub monthOf : ℕ → ℕ → Month
 monthOf e n =
     cond (isEdition e)

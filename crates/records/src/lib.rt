@@ -12,7 +12,8 @@ ghost use Rattle.longitudes.specs.Longitudes.{longitudesAt};
 ghost use Rattle.panchanga.specs.TrueLongitudes.{isEdition};
 ghost use Rattle.records.specs.Records.{recordOn, unfilledOn, refusedWith, recordOf, fillRefusal, filledAfter, noMonth, monthOf};
 
-// A day's number, and what is filled in for it: the nine mean longitudes in the order of `longitudes::Body`, the true Sun and Moon, the elements.
+// A day's number, and what is filled in for it: the nine mean longitudes in the order of `longitudes::Body`, the true
+// Sun and Moon, the elements.
 #[repr(C)]
 pub struct DayRecord {
     pub day: u32,

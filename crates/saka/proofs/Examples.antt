@@ -17,7 +17,8 @@ pub second-example : lunarDay (marked 1555 0 0 4) ≡ theNumber 41255
 unfolding lunarDay lunarDayWith fieldsInRange yearInRange extraMonths elapsedExtraMonths reckonedDay havingWeekday integerDay answerFrom dayOn
 second-example = refl
 
--- where two refusals are due the earlier one is given: 3 and the year's 2, the year's 2 and 8, 8 and 4, 8 and the day's 2
+-- where two refusals are due the earlier one is given: 3 and the year's 2, the year's 2 and 8, 8 and 4, 8 and the day's
+-- 2
 pub refusals-in-order :
     map (λ (d : LunarDate). lunarDay d .refusal) (marked 1441 12 0 2 ∷ marked 1441 0 0 2 ∷ marked 1442 0 0 2 ∷ marked 1442 0 0 6 ∷ [])
     ≡ badInput ∷ outOfRange ∷ noExtraMonth ∷ noExtraMonth ∷ []

@@ -47,7 +47,8 @@ module _ (d : LunarDate) where
   unfolding lunarDay
   without-mark e = rw (all e)
 
--- what the mark does where the quotient is not 0: paper 01's rule with one extra month fewer, and a reckoned day 29 or 30 days earlier
+-- what the mark does where the quotient is not 0: paper 01's rule with one extra month fewer, and a reckoned day 29 or
+-- 30 days earlier
 pub record MonthEarlier (d : LunarDate) : Type 0 where
   pub answer : lunarDay d ≡ lunarDayWith (theNumber (extraMonths d - 1)) d
   pub least : reckonedDay d (extraMonths d - 1) + 29 ≤ reckonedDay d (extraMonths d)

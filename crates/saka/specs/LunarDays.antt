@@ -1,4 +1,5 @@
--- The day of a Saka lunar date: the day reckoned by mean months and tithis, the day before it or the day after, whichever has the weekday.
+-- The day of a Saka lunar date: the day reckoned by mean months and tithis, the day before it or the day after,
+-- whichever has the weekday.
 -- Assumes nothing.
 use mathlib.Core.Bool.{Bool, cond, _&&_}
 use mathlib.Core.List.{List, [], _∷_}
@@ -93,7 +94,8 @@ dayOn w n = answerFrom (havingWeekday w (threeDays n))
 abbrev pub provided : Bool → ℕ → NumberAnswer → NumberAnswer
 provided test refusal answer = cond test answer (noNumber refusal)
 
--- paper 01's rule over the extra months. The refusals in their order: 3, the year's 2, that of the extra months (8), 4, the day's 2
+-- paper 01's rule over the extra months. The refusals in their order: 3, the year's 2, that of the extra months (8), 4,
+-- the day's 2
 unfoldable pub lunarDayWith : NumberAnswer → LunarDate → NumberAnswer
 lunarDayWith extra d =
     provided (fieldsInRange d) badInput

@@ -8,7 +8,8 @@ ghost use Prim.Native.Nat.{_<_};
 ghost use lib.IntN.{pos, predℤ};
 ghost use Rattle.saka.specs.LunarDays.{lunarDay, fieldsInRange, yearInRange, cycleOf, meanMonths, extraMonths, leapMonthPending, reckonedDay, dayOn, integerDay};
 
-// The Saka year, the lunar months (0 to 11) and the tithis (0 to 29), all elapsed, and the weekday, 0 Monday to 6 Sunday.
+// The Saka year, the lunar months (0 to 11) and the tithis (0 to 29), all elapsed, and the weekday, 0 Monday to 6
+// Sunday.
 pub struct LunarDate {
     pub year: u32,
     pub months: u32,

@@ -1,4 +1,5 @@
-// Prints Saka dates with their answers: year, months, tithis, weekday and whether an extra month is pending, then the refusal and the day.
+// Prints Saka dates with their answers: year, months, tithis, weekday and whether an extra month is pending, then the
+// refusal and the day.
 use libc::STDOUT_FILENO;
 use saka::LunarDate;
 
@@ -81,7 +82,8 @@ fn pending() {
     week(1534, 1, 14, true);
 }
 
-// The quotient by 33 is 0: the first date, and the last in cycle 0 and in cycle 11, each with a date behind it whose quotient is 1. Cycle 12 begins with 1.
+// The quotient by 33 is 0: the first date, and the last in cycle 0 and in cycle 11, each with a date behind it whose
+// quotient is 1. Cycle 12 begins with 1.
 fn pending_quotients() {
     week(1442, 0, 0, true);
     week(1443, 10, 29, true);

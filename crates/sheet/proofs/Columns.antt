@@ -1,4 +1,5 @@
--- The numbers found for a day's pair are its columns: the pair is in range, so that nothing is refused. Assumes nothing.
+-- The numbers found for a day's pair are its columns: the pair is in range, so that nothing is refused. Assumes
+-- nothing.
 use mathlib.Core.Path.{_≡_, ap, _∙_}
 use mathlib.Core.List.{List, [], _∷_}
 use Prim.Native.Nat.{ℕ, _≤_}

@@ -1,4 +1,5 @@
--- Worked cases: paper 01's sheet, and an input for each refusal. Both sides compute, so that `refl` proves them. Assumes nothing.
+-- Worked cases: paper 01's sheet, and an input for each refusal. Both sides compute, so that `refl` proves them.
+-- Assumes nothing.
 use mathlib.Core.Path.{_≡_, refl}
 use mathlib.Core.List.{[], _∷_}
 use Rattle.integers.specs.Integers.{floorOver, reduced}

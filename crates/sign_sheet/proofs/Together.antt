@@ -1,5 +1,5 @@
--- The lines of a listing are those that are printed for its input: the heading and then the line of each entry, by the entries that are read back from the list,
--- which has room for those of every span. Assumes nothing.
+-- The lines of a listing are those that are printed for its input: the heading and then the line of each entry, by the
+-- entries that are read back from the list, which has room for those of every span. Assumes nothing.
 use mathlib.Core.List.{List, [], _∷_, map}
 use mathlib.Core.Path.{_≡_, refl, sym, ap, ap₂, _∙_}
 use Prim.Native.Nat.{ℕ, suc, _+_, _≤_, _<_}
@@ -51,7 +51,8 @@ module _ (first last : ℕ) (o : Ordered first last) (list : List ℕ) (room : m
       rw (sym (written .0), sym (written .1))
       (accepted-lines _ (withEntries days list) refl ∙ ap (λ (ls : List (List ℕ)). signHeading ∷ ls) (lines-of (withEntries days list) days 0 (λ i h. let front : 0 + i ≡ i = omega arith in rw front (entry i h))))
 
--- THE LAW: the lines of a listing are those that are printed for its input; of a refused span, and of one whose entries have room in the list
+-- THE LAW: the lines of a listing are those that are printed for its input; of a refused span, and of one whose entries
+-- have room in the list
 module _ (s : Span) (input list : List ℕ) (e : s ≡ spanInput input) where
   pub refused-together : (s .refusal ≡ 0 → ⊥) → listingLines (noListing (s .refusal)) list ≡ signLinesFor input
   unfolding signLines listingLines

@@ -1,4 +1,5 @@
--- Worked sheets, byte by byte: what is printed for their inputs, and what is right. Both sides compute, so that `refl` proves them.
+-- Worked sheets, byte by byte: what is printed for their inputs, and what is right. Both sides compute, so that `refl`
+-- proves them.
 -- Assumes nothing.
 use mathlib.Core.Path.{_≡_, refl}
 use mathlib.Core.List.{[], _∷_}

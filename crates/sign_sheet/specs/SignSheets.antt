@@ -1,4 +1,5 @@
--- The sheet of signs: from the bytes of the input to the bytes that are printed, a heading and a line for each entry of the span, or a refusal.
+-- The sheet of signs: from the bytes of the input to the bytes that are printed, a heading and a line for each entry of
+-- the span, or a refusal.
 -- Assumes nothing.
 use mathlib.Core.Bool.{cond, _&&_}
 use mathlib.Core.List.{List, [], _∷_, _++_, map}
@@ -41,7 +42,8 @@ signsPrinted input = joined (signLinesFor input)
 abbrev pub noListing : ℕ → Listing
 noListing refusal = record { refusal = refusal; length = 0; examined = 0 }
 
--- the entries of a span that has been read, for a list of so many entries, and the list after; the span's refusal leaves it as it was
+-- the entries of a span that has been read, for a list of so many entries, and the list after; the span's refusal
+-- leaves it as it was
 unfoldable pub listingOn : Span → ℕ → Listing
 listingOn s room = cond (eqb (s .refusal) accepted) (listingOf (s .first) (s .last) room) (noListing (s .refusal))
 

@@ -19,7 +19,8 @@ pub const MOST_ENTRIES: usize = 13387;
 // The bytes of a list for so many entries, into which those of every span go.
 pub const LIST: usize = entries::ENTRY_BYTES * MOST_ENTRIES;
 
-// The entries of the span that an input means, put at the front of the list; their lines are those that are printed for it.
+// The entries of the span that an input means, put at the front of the list; their lines are those that are printed for
+// it.
 pub fn list_entries(input: &[u8], list: &mut [u8; LIST]) -> Listing
     ensures { λ r. ⌜ r ≡ listingFor (now (input .entry)) (capacity (now (list .entry))) ⌝ }
     ensures { λ _. ⌜ now (list .exit) ≡ listFor (now (input .entry)) (now (list .entry)) ⌝ }

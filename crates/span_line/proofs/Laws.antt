@@ -1,5 +1,5 @@
--- What a line with the word `span` in front means, by its words and its two days: the page's own definitions compute on the word. And what a span that is
--- accepted keeps to.
+-- What a line with the word `span` in front means, by its words and its two days: the page's own definitions compute on
+-- the word. And what a span that is accepted keeps to.
 -- Assumes nothing.
 use mathlib.Core.Bool.{Bool, true, false, cond}
 use mathlib.Core.List.{List, _++_}

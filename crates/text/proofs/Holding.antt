@@ -1,4 +1,5 @@
--- A line holds the bytes that it was made from where they fit, and then its contents can be lent; one that is ended holds all of them or the refusal. Assumes nothing.
+-- A line holds the bytes that it was made from where they fit, and then its contents can be lent; one that is ended
+-- holds all of them or the refusal. Assumes nothing.
 use mathlib.Core.Path.{_≡_, refl, ap, sym, _∙_}
 use mathlib.Core.List.{List, [], _∷_, _++_}
 use Prim.Native.Nat.{ℕ, _≤_, _<_}

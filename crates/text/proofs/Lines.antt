@@ -1,5 +1,5 @@
--- Laws of putting bytes on a line: one after another is all at once, the line's room stays as it is, and what fits is all
--- there. Assumes nothing.
+-- Laws of putting bytes on a line: one after another is all at once, the line's room stays as it is, and what fits is
+-- all there. Assumes nothing.
 use Prim.Native.Nat.{ℕ, _+_, _≤_, _<_}
 use mathlib.Core.Path.{_≡_, refl, ap, sym, _∙_}
 use mathlib.Core.Bool.{Bool, true, false}

@@ -1,5 +1,5 @@
--- Laws of a number's decimal digits. Each goes by one induction: a number below ten has one digit, and any other has the
--- digits of its tenth and one more. Assumes nothing.
+-- Laws of a number's decimal digits. Each goes by one induction: a number below ten has one digit, and any other has
+-- the digits of its tenth and one more. Assumes nothing.
 use Prim.Native.Nat.{ℕ, zero, suc, _/_, _%_, _^_, _≤_, _<_}
 use Prim.Native.Char.{code}
 use mathlib.Core.Path.{_≡_, refl, ap, sym, _∙_}

@@ -1,4 +1,5 @@
--- What holds along a loop that puts bytes or numbers on a line: those left, put on the line so far, make the line meant.
+-- What holds along a loop that puts bytes or numbers on a line: those left, put on the line so far, make the line
+-- meant.
 -- Assumes nothing.
 use Prim.Native.Nat.{ℕ, suc, _+_, _≤_, _<_}
 use mathlib.Core.Path.{_≡_, ap, sym, _∙_}

@@ -1,5 +1,5 @@
--- Lines of a sheet, put into a buffer one behind another and written where the next one does not fit: what was written is the sheet so far, and at the end
--- all of it. Assumes nothing.
+-- Lines of a sheet, put into a buffer one behind another and written where the next one does not fit: what was written
+-- is the sheet so far, and at the end all of it. Assumes nothing.
 use mathlib.Core.Bool.{true, false}
 use mathlib.Core.Path.{_≡_, refl, ap, sym, _∙_}
 use mathlib.Core.List.{List, [], _∷_, _++_, append-assoc, append-nil}
@@ -92,7 +92,8 @@ module _ (l : Line) (n : ℕ) (size : length (l .bytes) ≡ lineCapacity) (e : n
   contents-put buffer after at h p =
       rw (le-leb (at + length (contents l)) (length buffer) (omega (arith, contents-length)), contents-length, contents-are) (refl, p)
 
--- ---- along the loop that prints a sheet: the lines from `from` to before `index` wait in the first bytes of the buffer
+-- ---- along the loop that prints a sheet: the lines from `from` to before `index` wait in the first bytes of the
+-- buffer
 pub record Waiting (lines : List (List ℕ)) (room : ℕ) (buffer : List ℕ) (from bytes index : ℕ) : Type 0 where
   pub size : length buffer ≡ room
   pub within : bytes ≤ room

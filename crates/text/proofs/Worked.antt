@@ -1,4 +1,5 @@
--- Worked cases: what the meanings give, and what is right. Both sides compute, so that `refl` proves them. Assumes nothing.
+-- Worked cases: what the meanings give, and what is right. Both sides compute, so that `refl` proves them. Assumes
+-- nothing.
 use mathlib.Core.Path.{_≡_, refl}
 use mathlib.Core.List.{[], _∷_}
 use Rattle.days.specs.Refusals.{badInput}

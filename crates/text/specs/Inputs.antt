@@ -1,4 +1,5 @@
--- A day's number as a program reads it: 1 to 6 decimal digits and one newline, and a day that there is. And how long a text may be that a program reads.
+-- A day's number as a program reads it: 1 to 6 decimal digits and one newline, and a day that there is. And how long a
+-- text may be that a program reads.
 -- Assumes nothing.
 use mathlib.Core.Bool.{Bool, cond, _&&_}
 use mathlib.Core.List.{List}

@@ -16,7 +16,8 @@ joined (l ∷ ls) = l ++ joined ls
 unfoldable pub lineAt : List (List ℕ) → ℕ → List ℕ
 lineAt lines k = getD lines k []
 
--- these bytes are a sheet's from line j to before line k: what is due from line j on is they, and then what is due from line k on
+-- these bytes are a sheet's from line j to before line k: what is due from line j on is they, and then what is due from
+-- line k on
 abbrev pub Between : List (List ℕ) → ℕ → ℕ → List ℕ → Type 0
 Between lines j k bytes = joined (drop j lines) ≡ bytes ++ joined (drop k lines)
 

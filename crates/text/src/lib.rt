@@ -10,7 +10,8 @@ ghost use Rattle.text.specs.Inputs.{inputRead, dayInput};
 ghost use Rattle.text.specs.Lines.{emptyLine, contents, withByte, withBytes, ended, spaced, Holds, refusalLine};
 ghost use Rattle.text.specs.Sheets.{fitsAt, putAt};
 
-// A text that a program reads whole has fewer bytes: one that fills a buffer of so many is longer, or could not be read to its end.
+// A text that a program reads whole has fewer bytes: one that fills a buffer of so many is longer, or could not be read
+// to its end.
 pub const TOO_LONG: usize = 524288;
 
 // The bytes of a sheet that are written at once, of whole lines.

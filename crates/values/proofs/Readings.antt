@@ -1,4 +1,5 @@
--- Laws of the values' meanings, one for each case that the code meets; the weekdays of a line, word by word. Assumes nothing.
+-- Laws of the values' meanings, one for each case that the code meets; the weekdays of a line, word by word. Assumes
+-- nothing.
 use mathlib.Core.Bool.{cond}
 use mathlib.Core.Path.{_≡_, refl, ap, sym, _∙_}
 use mathlib.Core.List.{List}

@@ -1,4 +1,5 @@
--- What the values of a line mean: each is a word, read as a number, or the refusal of a bad line; and the weekdays of a line, as a set.
+-- What the values of a line mean: each is a word, read as a number, or the refusal of a bad line; and the weekdays of a
+-- line, as a set.
 -- Assumes nothing.
 use mathlib.Core.Bool.{Bool, true, false, cond, _&&_}
 use mathlib.Core.List.{List}

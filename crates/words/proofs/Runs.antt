@@ -1,4 +1,5 @@
--- Laws of the run at the front of a list: it is within the list, and it grows byte by byte. Each by the list's first byte.
+-- Laws of the run at the front of a list: it is within the list, and it grows byte by byte. Each by the list's first
+-- byte.
 -- Assumes nothing.
 use mathlib.Core.Path.{_≡_, refl, ap, sym, _∙_}
 use mathlib.Core.Bool.{Bool, true, false}

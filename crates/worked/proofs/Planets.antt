@@ -1,4 +1,5 @@
--- The five planets of day 33649, by computing their meaning. The numbers were worked out apart, with exact fractions; docs/rules.md has Jupiter's step by step.
+-- The five planets of day 33649, by computing their meaning. The numbers were worked out apart, with exact fractions;
+-- docs/rules.md has Jupiter's step by step.
 -- Assumes nothing.
 use mathlib.Core.List.{[], _∷_}
 use mathlib.Core.Path.{_≡_, refl}

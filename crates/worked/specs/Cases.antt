@@ -1,4 +1,5 @@
--- The cases that paper 01 marks with a star ("Days on both sides"), in its order. Each has what the meanings give and, in the same order, what the paper says.
+-- The cases that paper 01 marks with a star ("Days on both sides"), in its order. Each has what the meanings give and,
+-- in the same order, what the paper says.
 -- Assumes nothing.
 use mathlib.Core.Bool.{true, false}
 use mathlib.Core.List.{List, [], _∷_, _++_}

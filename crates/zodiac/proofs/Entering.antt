@@ -1,4 +1,5 @@
--- The entries of a span are the days on which its signs are passed, one after another: between two of these days none enters a sign; by induction on the signs left.
+-- The entries of a span are the days on which its signs are passed, one after another: between two of these days none
+-- enters a sign; by induction on the signs left.
 -- Assumes nothing.
 use mathlib.Core.Path.{_≡_, refl, ap, _∙_}
 use mathlib.Core.Bool.{true, false}

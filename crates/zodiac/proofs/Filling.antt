@@ -1,4 +1,5 @@
--- The loop that puts the days on which signs are passed: what is left to put, put behind what is there, gives the list that is meant.
+-- The loop that puts the days on which signs are passed: what is left to put, put behind what is there, gives the list
+-- that is meant.
 -- Assumes nothing.
 use mathlib.Core.Path.{_≡_, refl, sym, ap, ap₂, _∙_}
 use mathlib.Core.List.{List}

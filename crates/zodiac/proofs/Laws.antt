@@ -1,5 +1,7 @@
--- The laws beside the entries of a span: exactly the days that enter a sign, each once, earliest first; the signs follow in a circle of twelve; neighbouring entries are 30 or 31 days apart,
--- so there are few; none comes sooner than the Sun's largest advance allows; and what is written is read back. By the signs passed, which grow by one at each entry.
+-- The laws beside the entries of a span: exactly the days that enter a sign, each once, earliest first; the signs
+-- follow in a circle of twelve; neighbouring entries are 30 or 31 days apart, so there are few; none comes sooner than
+-- the Sun's largest advance allows; and what is written is read back. By the signs passed, which grow by one at each
+-- entry.
 -- Assumes nothing.
 use mathlib.Core.Path.{_≡_, sym, ap, _∙_}
 use mathlib.Core.Bool.{true, false, false≢true}

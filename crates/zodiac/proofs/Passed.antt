@@ -1,5 +1,5 @@
--- The signs passed, by the unrolled Sun: they never fall, a day adds none or one, the sign in which the Sun stands is what is left of them by twelves, and a day enters a
--- sign exactly where they grow. Assumes nothing.
+-- The signs passed, by the unrolled Sun: they never fall, a day adds none or one, the sign in which the Sun stands is
+-- what is left of them by twelves, and a day enters a sign exactly where they grow. Assumes nothing.
 use mathlib.Core.Path.{_≡_, refl, sym, ap, _∙_}
 use mathlib.Core.Bool.{true, false}
 use Prim.Native.Nat.{ℕ, _+_, _-_, _*_, _/_, _%_, _≤_, _<_}

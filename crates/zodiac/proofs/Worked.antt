@@ -1,4 +1,5 @@
--- Numbers worked from the meaning: the entries of the first year, by computing, and how many there are on all days, by the law of the count.
+-- Numbers worked from the meaning: the entries of the first year, by computing, and how many there are on all days, by
+-- the law of the count.
 -- Assumes nothing.
 use mathlib.Core.Path.{_≡_, refl}
 use mathlib.Core.List.{[], _∷_}

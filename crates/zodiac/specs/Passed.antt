@@ -1,4 +1,5 @@
--- What only contracts of private functions speak of: the signs that the mean Sun has passed, not reduced by circles, and the day on which it has passed so many.
+-- What only contracts of private functions speak of: the signs that the mean Sun has passed, not reduced by circles,
+-- and the day on which it has passed so many.
 -- Assumes nothing.
 use mathlib.Core.List.{List, [], _∷_}
 use Prim.Native.Nat.{ℕ, zero, suc, _+_, _-_, _*_, _/_, _%_}
@@ -19,7 +20,8 @@ signsPassed n = (1258860 + n / cycleDays * cycleSeconds + n % cycleDays * 124186
 abbrev pub secondsTo : ℕ → ℕ
 secondsTo k = signSeconds * k - 1258860
 
--- the first day on which k signs are passed, from 12 on: whole cycles, and in the cycle the days for what is left, rounded up
+-- the first day on which k signs are passed, from 12 on: whole cycles, and in the cycle the days for what is left,
+-- rounded up
 unfoldable pub dayPassing : ℕ → ℕ
 dayPassing k = cycleDays * (secondsTo k / cycleSeconds) + roundedUp (35 * (secondsTo k % cycleSeconds)) 124186
 

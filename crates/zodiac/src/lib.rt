@@ -19,7 +19,8 @@ const SIGN: u32 = 108000;
 // The seconds that the mean Sun goes in a cycle: eleven circles less the cycle's amount.
 const CYCLE_SECONDS: u32 = 11 * CIRCLE - SUN.d;
 
-// How many entries there are, where the span is not refused. The last number, which in the search tells the days examined, is always 0.
+// How many entries there are, where the span is not refused. The last number, which in the search tells the days
+// examined, is always 0.
 pub struct Listing {
     pub refusal: u32,
     pub length: u32,
@@ -47,7 +48,8 @@ fn signs_passed(day: u32) -> u32
     (turned + moved) / SIGN
 }
 
-// The first day on which so many signs are passed: whole cycles, and in the cycle the days for what is left, rounded up. No day is tested.
+// The first day on which so many signs are passed: whole cycles, and in the cycle the days for what is left, rounded
+// up. No day is tested.
 fn day_passing(signs: u32) -> u32
     requires { ⌜ (12 ≤ signs) × (signs ≤ 13205) ⌝ }
     ensures { λ r. ⌜ r ≡ dayPassing signs ⌝ }
@@ -92,7 +94,8 @@ pub fn sign_entries_length(first: u32, last: u32) -> NumberAnswer
     NumberAnswer::accepted(count_entries(first, last))
 }
 
-// Writes the days of the span after its first on which the mean Sun stands in another sign than the day before to the list, earliest first, or leaves it as it was.
+// Writes the days of the span after its first on which the mean Sun stands in another sign than the day before to the
+// list, earliest first, or leaves it as it was.
 pub fn sign_entries(first: u32, last: u32, list: &mut [u8]) -> Listing
     ensures { λ r. ⌜ r ≡ listingOf first last (capacity (now (list .entry))) ⌝ }
     ensures { λ _. ⌜ now (list .exit) ≡ entriesAfter first last (now (list .entry)) ⌝ }

@@ -1,4 +1,5 @@
--- `degrees` meets its contract: the cast reads the number back from its bits, and the division rounds once. Assumes nothing.
+-- `degrees` meets its contract: the cast reads the number back from its bits, and the division rounds once. Assumes
+-- nothing.
 use mathlib.Core.Path.{ap, _∙_}
 use lib.IntN.{ℤ}
 use lib.Ieee.{binary64, div, ofInt, ofBits}

@@ -1,4 +1,5 @@
--- `follow` meets its contract: held where it is refused and on the last day, else it runs at the rate, whose range is a law. Assumes nothing.
+-- `follow` meets its contract: held where it is refused and on the last day, else it runs at the rate, whose range is a
+-- law. Assumes nothing.
 use borrow.Author.Needs.{needs}
 use mathlib.Core.Path.{_≡_, sym, _∙_, subst}
 use native.Mathlib.Omega.{arith}

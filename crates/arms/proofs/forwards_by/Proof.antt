@@ -1,4 +1,5 @@
--- `forwards_by` meets its contract: within a cycle the way is what the day moves, and where a cycle turns the difference of the two days' seconds. Assumes nothing.
+-- `forwards_by` meets its contract: within a cycle the way is what the day moves, and where a cycle turns the
+-- difference of the two days' seconds. Assumes nothing.
 use mathlib.Core.Path.{ap₂, _∙_}
 use native.Mathlib.Omega.{arith}
 use Rattle.longitudes.specs.Longitudes.{differenceOf}

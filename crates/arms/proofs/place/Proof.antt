@@ -1,4 +1,5 @@
--- `place` meets its contract: held where it is refused, else it goes to the angle, whose range and exact case are laws. Assumes nothing.
+-- `place` meets its contract: held where it is refused, else it goes to the angle, whose range and exact case are laws.
+-- Assumes nothing.
 use borrow.Author.Needs.{needs}
 use mathlib.Core.Path.{_≡_, sym, _∙_, subst}
 use Rattle.arms.specs.Orders.{orderNumber, orderValue, orderRefusal}

@@ -1,4 +1,5 @@
--- `lines` meets its contract: a number that is no edition is refused, and of an edition `put_lines` hands back the answer. Assumes nothing.
+-- `lines` meets its contract: a number that is no edition is refused, and of an edition `put_lines` hands back the
+-- answer. Assumes nothing.
 use borrow.Author.Needs.{needs}
 use borrow.Author.Tests.{not-true, not-false}
 use mathlib.Core.Path.{refl, sym, _∙_}

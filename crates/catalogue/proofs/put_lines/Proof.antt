@@ -1,5 +1,5 @@
--- `put_lines` meets its contract: what was put and what the rest will put are the whole piece (Filling), which stays so by each line and is
--- the answer at each of the three ends. Assumes nothing.
+-- `put_lines` meets its contract: what was put and what the rest will put are the whole piece (Filling), which stays so
+-- by each line and is the answer at each of the three ends. Assumes nothing.
 use Prim.Native.Nat.{_-_}
 use native.Mathlib.Omega.{arith}
 use Rattle.entries.specs.Entries.{capacity}

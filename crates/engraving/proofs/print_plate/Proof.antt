@@ -1,4 +1,5 @@
--- `print_plate` meets its contract: the lines from `from` to before `index` wait in the buffer (Waiting), and are printed where the next one does not fit and at the end.
+-- `print_plate` meets its contract: the lines from `from` to before `index` wait in the buffer (Waiting), and are
+-- printed where the next one does not fit and at the end.
 -- Assumes nothing.
 use Prim.Native.Nat.{_+_, _-_, _≤_}
 use mathlib.Core.Bool.{false≢true}

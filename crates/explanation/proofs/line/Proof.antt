@@ -1,4 +1,5 @@
--- `line` meets its contract: the answer's case is the one that the meaning's numbers are of, and the line fits. Assumes nothing.
+-- `line` meets its contract: the answer's case is the one that the meaning's numbers are of, and the line fits. Assumes
+-- nothing.
 use mathlib.Core.Path.{_≡_, sym, ap, _∙_}
 use Rattle.reasons.specs.Reasons.{Numbers, whyOf, numbersOf}
 use Rattle.text.proofs.Holding.{holds}

@@ -1,4 +1,5 @@
--- `put_names` meets its contract. The loop's invariant: with the names from this weekday on, the line is the whole. The measure is the weekdays left. Assumes nothing.
+-- `put_names` meets its contract. The loop's invariant: with the names from this weekday on, the line is the whole. The
+-- measure is the weekdays left. Assumes nothing.
 use borrow.Author.Needs.{needs}
 use mathlib.Core.Path.{_≡_, refl, _∙_}
 use native.Mathlib.Omega.{arith}

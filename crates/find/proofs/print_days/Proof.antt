@@ -1,5 +1,5 @@
--- `print_days` meets its contract: the output from the bytes written on begins with the lines that are still due (Printing), and a piece is the
--- front of these. Their bytes are the measure. Assumes nothing.
+-- `print_days` meets its contract: the output from the bytes written on begins with the lines that are still due
+-- (Printing), and a piece is the front of these. Their bytes are the measure. Assumes nothing.
 use mathlib.Core.Path.{_≡_, sym, _∙_}
 use mathlib.Core.Bool.{true, false≢true}
 use native.Mathlib.Omega.{arith}

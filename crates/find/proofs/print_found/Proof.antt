@@ -1,4 +1,5 @@
--- `print_found` meets its contract: the heading, and behind it the lines of the whole span as one part (Parting), or those of the parts. Assumes nothing.
+-- `print_found` meets its contract: the heading, and behind it the lines of the whole span as one part (Parting), or
+-- those of the parts. Assumes nothing.
 use mathlib.Core.Path.{sym, _∙_}
 use mathlib.Core.Bool.{false≢true}
 use native.Mathlib.Omega.{arith}

@@ -1,4 +1,5 @@
--- `print_heading` meets its contract: its numbers are the query's, and the heading is the output's front. Assumes nothing.
+-- `print_heading` meets its contract: its numbers are the query's, and the heading is the output's front. Assumes
+-- nothing.
 use mathlib.Core.Path.{ap, sym, _∙_}
 use native.Mathlib.Omega.{arith}
 use lib.ListN.{length}

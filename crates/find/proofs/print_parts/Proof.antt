@@ -1,4 +1,5 @@
--- `print_parts` meets its contract: the output from the bytes written on is the lines of the days that are left of the span (Parting). Assumes nothing.
+-- `print_parts` meets its contract: the output from the bytes written on is the lines of the days that are left of the
+-- span (Parting). Assumes nothing.
 use Prim.Native.Nat.{_+_, _-_, _≤_}
 use mathlib.Core.Path.{_≡_, refl, sym, _∙_}
 use mathlib.Core.Bool.{false≢true}

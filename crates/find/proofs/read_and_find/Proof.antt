@@ -1,4 +1,5 @@
--- `read_and_find` is safe and ends: an accepted page's query is not refused, and the number of a line at fault fits. Assumes nothing.
+-- `read_and_find` is safe and ends: an accepted page's query is not refused, and the number of a line at fault fits.
+-- Assumes nothing.
 use native.Mathlib.Omega.{arith}
 use Rattle.find.proofs.Pages.{accepted-query, small-number}
 use borrow.Author.Needs.{needs}

@@ -1,4 +1,5 @@
--- `input::read_input` meets its contract and ends: each read that goes on adds a byte, and none passes the buffer's end.
+-- `input::read_input` meets its contract and ends: each read that goes on adds a byte, and none passes the buffer's
+-- end.
 -- Assumes nothing.
 use Prim.Native.Nat.{_-_, _≤_}
 use mathlib.Core.Path.{_≡_, refl}

@@ -1,4 +1,5 @@
--- `forwards` meets its contract: from the rest of the circle on there is one circle to take off, and before it none. Assumes nothing.
+-- `forwards` meets its contract: from the rest of the circle on there is one circle to take off, and before it none.
+-- Assumes nothing.
 use mathlib.Core.Path.{_≡_, sym, _∙_}
 use Prim.Native.Nat.{ℕ, _+_, _-_, _%_, _≤_, _<_}
 use native.Mathlib.Nat.{mod-eq-of-lt, mod-eq-sub-mod}

@@ -1,4 +1,5 @@
--- `scan_next` meets its contract: a day that begins no cycle is what day 1 gained farther than the day before. Assumes nothing.
+-- `scan_next` meets its contract: a day that begins no cycle is what day 1 gained farther than the day before. Assumes
+-- nothing.
 use Prim.Native.Nat.{_-_}
 use native.Mathlib.Omega.{arith}
 use borrow.Author.Needs.{needs}

@@ -1,4 +1,5 @@
--- `read_values` meets its contract: weekdays, two numbers, or arcs, each word found after the one before. Assumes nothing.
+-- `read_values` meets its contract: weekdays, two numbers, or arcs, each word found after the one before. Assumes
+-- nothing.
 use mathlib.Core.Path.{_∙_}
 use borrow.Author.Needs.{needs}
 use borrow.Author.Tests.{eq-eqb, ne-eqb, lt-ltb, le-ltb}

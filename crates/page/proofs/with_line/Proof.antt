@@ -1,4 +1,5 @@
--- `with_line` meets its contract: a line without a condition, one whose keyword is present already, and a new one. Assumes nothing.
+-- `with_line` meets its contract: a line without a condition, one whose keyword is present already, and a new one.
+-- Assumes nothing.
 use mathlib.Core.Path.{_∙_}
 use borrow.Author.Tests.{le-leb, lt-leb}
 use native.Mathlib.Omega.{arith}

@@ -1,4 +1,5 @@
--- `mean_on` meets its contract: a day in range has its longitude, which is below a circle, so that the remainder is itself.
+-- `mean_on` meets its contract: a day in range has its longitude, which is below a circle, so that the remainder is
+-- itself.
 use borrow.Author.Needs.{needs}
 use mathlib.Core.Path.{_≡_}
 use Prim.Native.Nat.{_%_}

@@ -1,4 +1,5 @@
--- `on_line` meets its contract: at an entry it is the entry, else the two are weighed; both keep to the row's largest entry.
+-- `on_line` meets its contract: at an entry it is the entry, else the two are weighed; both keep to the row's largest
+-- entry.
 use borrow.Author.Needs.{needs}
 use mathlib.Core.Path.{sym}
 use native.Mathlib.Omega.{arith}

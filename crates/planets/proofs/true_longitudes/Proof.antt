@@ -1,4 +1,5 @@
--- `true_longitudes` meets its contract: `in_range` tells which answer it is, and the five are the planets in their order.
+-- `true_longitudes` meets its contract: `in_range` tells which answer it is, and the five are the planets in their
+-- order.
 use borrow.Author.Needs.{needs}
 use mathlib.Core.Bool.{true}
 use mathlib.Core.Path.{_≡_, sym, _∙_}

@@ -1,4 +1,5 @@
--- `true_on` meets its contract: each case has its planet's rows, and the law of the planets with a mean place or of those with a mean anomaly.
+-- `true_on` meets its contract: each case has its planet's rows, and the law of the planets with a mean place or of
+-- those with a mean anomaly.
 use borrow.Author.Needs.{needs}
 use mathlib.Core.Path.{refl, _∙_}
 use Rattle.planets.specs.Tables.{sighraTable, mandaTable, planetApogees, rowOf}

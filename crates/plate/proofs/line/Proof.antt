@@ -1,4 +1,5 @@
--- `line` meets its contract: the answer of reading the day and the line's index decide which line is meant. Assumes nothing.
+-- `line` meets its contract: the answer of reading the day and the line's index decide which line is meant. Assumes
+-- nothing.
 use Prim.Native.Nat.{_-_}
 use native.Mathlib.Omega.{arith}
 use lib.ListN.{getD}

@@ -1,4 +1,5 @@
--- `arcs_in_range` meets its contract. The loop's invariant: the arcs of each body passed are in range. The measure is the bodies left.
+-- `arcs_in_range` meets its contract. The loop's invariant: the arcs of each body passed are in range. The measure is
+-- the bodies left.
 use mathlib.Core.Path.{_≡_, sym, _∙_}
 use mathlib.Core.Bool.{true}
 use Prim.Native.Nat.{ℕ, _≤_, _<_, _-_}

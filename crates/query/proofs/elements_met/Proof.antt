@@ -1,4 +1,5 @@
--- `elements_met` meets its contract: no edition decides, then a pair out of range; with neither tithi nor yoga asked for the nakshatra, else the elements in turn.
+-- `elements_met` meets its contract: no edition decides, then a pair out of range; with neither tithi nor yoga asked
+-- for the nakshatra, else the elements in turn.
 use borrow.Author.Needs.{needs}
 use borrow.Author.Tests.{not-true, not-false}
 use mathlib.Core.Bool.{true, and-false}
@@ -39,7 +40,8 @@ returns-3 c = elements-tested _ _ _ _ _ (known (c .before .before .before .befor
 of-day-requires : tie.Need-of-day-requires
 of-day-requires c κs = search needs
 
--- the elements found are the day's, and each test is of one of them: a fact each, so that a wrong answer to one is refused by itself
+-- the elements found are the day's, and each test is of one of them: a fact each, so that a wrong answer to one is
+-- refused by itself
 found-on : (c : tie.After-of-day) → ElementsOn (c .before .before .before .before .before .before .before .args .edition) (c .before .before .before .before .before .before .before .args .day) (c .of-day .result)
 found-on c = elements-on _ _ _ (known (c .before .before .before)) (c .of-day .ensures)
 

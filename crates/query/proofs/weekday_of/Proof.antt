@@ -1,4 +1,5 @@
--- `weekday_of` meets its contract: of n = 7 k + w the product is k circles of 2 ^ 32, and 3 k + 613566757 w, which is w eighths of 2 ^ 32 and less than one more.
+-- `weekday_of` meets its contract: of n = 7 k + w the product is k circles of 2 ^ 32, and 3 k + 613566757 w, which is w
+-- eighths of 2 ^ 32 and less than one more.
 use native.Mathlib.Omega.{arith}
 use Prim.Native.Nat.{ℕ, _+_, _*_, _%_, _/_, _≤_}
 use mathlib.Core.Path.{_≡_}

@@ -1,4 +1,5 @@
--- `first_unmet` meets its contract: the conditions are tested one after another, and each that holds leaves those behind it. Assumes nothing.
+-- `first_unmet` meets its contract: the conditions are tested one after another, and each that holds leaves those
+-- behind it. Assumes nothing.
 use borrow.Author.Needs.{needs}
 use borrow.Author.Tests.{le-leb, lt-leb}
 use mathlib.Core.Bool.{true}

@@ -1,4 +1,5 @@
--- `unmet_arcs` meets its contract. The loop's invariant: the first that is not met from this body on is the first of all. The measure is the bodies left. Assumes nothing.
+-- `unmet_arcs` meets its contract. The loop's invariant: the first that is not met from this body on is the first of
+-- all. The measure is the bodies left. Assumes nothing.
 use borrow.Author.Needs.{needs}
 use mathlib.Core.Path.{_≡_, refl, _∙_}
 use native.Mathlib.Omega.{arith}

@@ -1,4 +1,5 @@
--- `why` meets its contract: refused where the question is, else the first condition that is not met, in the query's edition. Assumes nothing.
+-- `why` meets its contract: refused where the question is, else the first condition that is not met, in the query's
+-- edition. Assumes nothing.
 use borrow.Author.Needs.{needs}
 use borrow.Author.Tests.{eq-eqb, ne-eqb}
 use mathlib.Core.Path.{_≡_, sym, _∙_}

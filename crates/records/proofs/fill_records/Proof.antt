@@ -1,5 +1,7 @@
--- `fill_records` meets its contract: a walk of its MIR, by hand. The borrow is opened once, before the edition is tested, and closed before each of the three returns:
--- in between the records are the function's own, and a turn takes record i out of them (`elem-out`) and puts it, or the filled one, back.
+-- `fill_records` meets its contract: a walk of its MIR, by hand. The borrow is opened once, before the edition is
+-- tested, and closed before each of the three returns:
+-- in between the records are the function's own, and a turn takes record i out of them (`elem-out`) and puts it, or the
+-- filled one, back.
 -- Assumes nothing.
 use mathlib.Core.Path.{_≡_, refl, sym, ap, _∙_, subst}
 use mathlib.Core.Logic.{_⊎_, inl, inr, ⊎-elim}
@@ -193,7 +195,8 @@ module _ {M : Type 1} (𝓤 : URA M) (H : Heap 𝓤) (A : Atoms 𝓤) (W : Given
     abbrev En : Env 𝓤 H
     En = (half, l₀) ∷ (half, l₁) ∷ (slice, l₂) ∷ (word, l₃) ∷ (tyBool, l₄) ∷ (tyBool, l₅) ∷ (word, l₆) ∷ (tyBool, l₇) ∷ (tyPtr, l₈) ∷ (half, l₉) ∷ (word, l₁₀) ∷ (tyBool, l₁₁) ∷ (T′.mir, l₁₂) ∷ (tyPtr, l₁₃) ∷ (half, l₁₄) ∷ (word, l₁₅) ∷ (tyPtr, l₁₆) ∷ []
 
-    -- the records zs (0), the local _3 (1), room for the temporaries _4 to _16 (2 to 14), the slice (15), the edition (16), the result's local (17), the open borrow (18 to 20), and that each local dies
+    -- the records zs (0), the local _3 (1), room for the temporaries _4 to _16 (2 to 14), the slice (15), the edition
+    -- (16), the result's local (17), the open borrow (18 to 20), and that each local dies
     abbrev Ctx : List DayRecord → Item 𝓤 → Item 𝓤 → List (Item 𝓤)
     Ctx zs at z = ‵ (Index.row T.the-row fullShare zs b o) ∷ at ∷ ‵ (froom tyBool l₄ 0) ∷ ‵ (froom tyBool l₅ 0) ∷ ‵ (froom word l₆ 0) ∷ ‵ (froom tyBool l₇ 0) ∷ ‵ (froom tyPtr l₈ 0) ∷ ‵ (froom half l₉ 0) ∷ ‵ (froom word l₁₀ 0) ∷ ‵ (froom tyBool l₁₁ 0) ∷ ‵ (froom T′.mir l₁₂ 0) ∷ ‵ (froom tyPtr l₁₃ 0) ∷ ‵ (froom half l₁₄ 0) ∷ ‵ (froom word l₁₅ 0) ∷ ‵ (froom tyPtr l₁₆ 0)
         ∷ ‵ (fat fullShare slice l₂ 0 s) ∷ ‵ (fat fullShare half l₁ 0 (vint w32 e)) ∷ z ∷ ‵ (fobor κ q (Held T.the-row n b o γ)) ∷ ‵ (fobs γ (codedHoleys T.the-row .code (heres T.the-row xs))) ∷ ‵ (fauth γ (codedHoleys T.the-row .code (heres T.the-row xs)))

@@ -1,5 +1,6 @@
--- `filled_thirty` meets its contract: a walk of its MIR, by hand. The local array is taken apart into its elements and lent as a slice for a lifetime that the walk makes;
--- after the call the lifetime is ended, and the array comes back at the last list that `fill_records` says.
+-- `filled_thirty` meets its contract: a walk of its MIR, by hand. The local array is taken apart into its elements and
+-- lent as a slice for a lifetime that the walk makes; after the call the lifetime is ended, and the array comes back at
+-- the last list that `fill_records` says.
 -- Assumes nothing.
 use mathlib.Core.Path.{_≡_, refl, sym, _∙_, subst}
 use Prim.Native.Nat.{ℕ, _<_, _^_}
@@ -143,7 +144,8 @@ module _ {M : Type 1} (𝓤 : URA M) (H : Heap 𝓤) (A : Atoms 𝓤) (W : Given
       split ! $ move ! (1 ∷ []) $ use1 W (some (λ (ws : Unit {0} × (List DayRecord × Unit {0})). ‵ (lasts fill-records.ended (α ∷ [], tt) (e, (x l₃ (α ∷ []) γ, tt)) ws) ⊛ raw (fact 𝓤 ((r ≡ fillRefusal e xs) × (ws .1 .0 ≡ filledAfter e xs))))) (id⊢ 𝓤 _) $ pick ! (λ ws.
       let zs = ws .1 .0 in
       split ! $ move ! (1 ∷ []) $ heard ! ((r ≡ fillRefusal e xs) × (ws .1 .0 ≡ filledAfter e xs)) (λ says-so. fsplit ! $ drop ! $ fsplit ! $ fsplit ! $ move ! (1 ∷ []) $ feqL ! (λ same.
-      -- [the last list; true; the token and the result; the lender's part; _6 (4); …]: the lifetime is ended, and the array comes back
+      -- [the last list; true; the token and the result; the lender's part; _6 (4); …]: the lifetime is ended, and the
+      -- array comes back
       move ! (2 ∷ []) $ split ! $ split ! $ lft-end ! tt $ move ! (0 ∷ 5 ∷ 3 ∷ []) $
       use3 W (later (‵ (Arr (memOf T.the-row) (length xs) .lies zs l₃ 0))) (slice-back 𝓤 H A W T.the-row (α ∷ []) γ zs (length xs) l₃ 0) $ await ! tt $
       fsplit ! $ drop ! $ use1 W (‵ (denote.Index.row T.the-row fullShare zs l₃ 0)) (whole-out 𝓤 H A W T.the-row zs l₃ 0) $ feqI ! ℕ (length zs) 30 (same ∙ len) $ fjoin ! $

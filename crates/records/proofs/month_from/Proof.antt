@@ -1,4 +1,5 @@
--- `month_from` meets its contract, case by case: where the last of thirty days is in range all are, and filled together they are the month's.
+-- `month_from` meets its contract, case by case: where the last of thirty days is in range all are, and filled together
+-- they are the month's.
 -- Assumes nothing.
 use borrow.Author.Needs.{needs}
 use borrow.Author.Tests.{not-true, not-false}

@@ -1,4 +1,5 @@
--- `nine_on` meets its contract: for a day in range each body's seconds are its own, and they stand in the table's order.
+-- `nine_on` meets its contract: for a day in range each body's seconds are its own, and they stand in the table's
+-- order.
 -- Assumes nothing.
 use borrow.Author.Needs.{needs}
 use Rattle.records.proofs.Answers.{nine-found}

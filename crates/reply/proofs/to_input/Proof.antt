@@ -1,4 +1,5 @@
--- `to_input` meets its contract: an input that is too long is not read, and the number of a line at fault fits. Assumes nothing.
+-- `to_input` meets its contract: an input that is too long is not read, and the number of a line at fault fits. Assumes
+-- nothing.
 use mathlib.Core.Path.{ap}
 use native.Mathlib.Omega.{arith}
 use Rattle.question.specs.declared.Question.{Question}

@@ -1,4 +1,5 @@
--- `show_scan` ends: where the look is not refused the next day is later (the law `looked-later`), so the measure, the days left, goes down.
+-- `show_scan` ends: where the look is not refused the next day is later (the law `looked-later`), so the measure, the
+-- days left, goes down.
 use borrow.Author.Needs.{needs}
 use Prim.Native.Nat.{_+_, _-_, _≤_, _<_}
 use native.Mathlib.Omega.{arith}

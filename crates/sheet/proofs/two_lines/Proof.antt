@@ -1,4 +1,5 @@
--- `sheet::two_lines` meets its contract: the columns are the day's, and what is put one after another is put at once and fits.
+-- `sheet::two_lines` meets its contract: the columns are the day's, and what is put one after another is put at once
+-- and fits.
 -- Assumes nothing.
 use mathlib.Core.Path.{ap, _∙_}
 use mathlib.Core.List.{append-assoc}

@@ -1,4 +1,5 @@
--- `list_entries` meets its contract: the span's refusal decides, else its entries are listed, and all of them have room. Assumes nothing.
+-- `list_entries` meets its contract: the span's refusal decides, else its entries are listed, and all of them have
+-- room. Assumes nothing.
 use Prim.Native.Nat.{_≤_}
 use mathlib.Core.Path.{_≡_}
 use native.Mathlib.Omega.{arith}

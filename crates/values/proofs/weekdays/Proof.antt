@@ -1,4 +1,5 @@
--- `weekdays` meets its contract: `Reading` holds before each word. The measure is the words that may follow. Assumes nothing.
+-- `weekdays` meets its contract: `Reading` holds before each word. The measure is the words that may follow. Assumes
+-- nothing.
 use mathlib.Core.Path.{ap, _∙_}
 use Prim.Native.Nat.{_-_}
 use native.Mathlib.Omega.{arith}

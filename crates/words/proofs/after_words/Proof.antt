@@ -1,4 +1,5 @@
--- `after_words` meets its contract. The loop's invariant: what follows the words that are left is what is due. Assumes nothing.
+-- `after_words` meets its contract. The loop's invariant: what follows the words that are left is what is due. Assumes
+-- nothing.
 use mathlib.Core.Path.{_≡_, refl, ap, _∙_}
 use mathlib.Core.List.{List}
 use Prim.Native.Nat.{ℕ, zero, suc, _-_, _≤_, _<_}

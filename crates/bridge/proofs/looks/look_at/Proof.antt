@@ -1,4 +1,5 @@
--- `look_at` meets its contract: the library's look at the query of the bytes, with 1 or 0 for a truth value, or a refusal for another length.
+-- `look_at` meets its contract: the library's look at the query of the bytes, with 1 or 0 for a truth value, or a
+-- refusal for another length.
 use mathlib.Core.Bool.{cond}
 use mathlib.Core.Path.{ap, _∙_}
 use borrow.Author.Needs.{needs}

@@ -1,4 +1,5 @@
--- `bridge_fill_records` meets its contract: a walk of its MIR, by hand. The slice that came in is handed on as it is, for the same lifetime, and its last list is the one that `fill_records` says.
+-- `bridge_fill_records` meets its contract: a walk of its MIR, by hand. The slice that came in is handed on as it is,
+-- for the same lifetime, and its last list is the one that `fill_records` says.
 -- Assumes nothing.
 use mathlib.Core.Path.{_≡_, refl}
 use mathlib.Core.List.{List, [], _∷_}

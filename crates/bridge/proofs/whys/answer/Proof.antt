@@ -1,4 +1,5 @@
--- `answer` meets its contract: the library's answer for the query of the bytes, by its numbers, or a refusal for another length. Assumes nothing.
+-- `answer` meets its contract: the library's answer for the query of the bytes, by its numbers, or a refusal for
+-- another length. Assumes nothing.
 use native.Mathlib.Omega.{arith}
 use borrow.Author.Tests.{eq-eqb, ne-eqb}
 use mathlib.Core.Path.{_≡_, refl, sym, ap, _∙_}

@@ -1,4 +1,5 @@
--- `graha_karana` meets its contract: a number of the pair is the number of the day, and the first edition's answers are the day's.
+-- `graha_karana` meets its contract: a number of the pair is the number of the day, and the first edition's answers are
+-- the day's.
 use borrow.Author.Needs.{needs}
 use mathlib.Core.Path.{_∙_}
 use Rattle.panchanga.specs.TrueLongitudes.{firstEdition}

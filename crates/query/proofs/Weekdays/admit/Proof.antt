@@ -1,4 +1,5 @@
--- `Weekdays::admit` meets its contract: a number that is no day has no weekday; of a day the test of the weekday's bit is the meaning's.
+-- `Weekdays::admit` meets its contract: a number that is no day has no weekday; of a day the test of the weekday's bit
+-- is the meaning's.
 use native.Mathlib.Omega.{arith}
 use borrow.Author.Tests.{le-leb, lt-leb}
 use Rattle.days.specs.Days.{weekdayOn}

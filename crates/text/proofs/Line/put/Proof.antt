@@ -1,4 +1,5 @@
--- `text::Line::put` meets its contract: before byte i of the contents is copied, the first i of them are. Assumes nothing.
+-- `text::Line::put` meets its contract: before byte i of the contents is copied, the first i of them are. Assumes
+-- nothing.
 use Prim.Native.Nat.{_-_, _≤_}
 use mathlib.Core.Path.{_≡_, refl, sym}
 use native.Mathlib.Omega.{arith}
