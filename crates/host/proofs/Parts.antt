@@ -2,12 +2,8 @@
 -- Assumes nothing.
 use mathlib.Core.Path.{_≡_, ap}
 use Rattle.days.specs.declared.DayAnswer.{DayAnswer}
-use Rattle.days.specs.declared.NumberAnswer.{NumberAnswer}
 use Rattle.civil.specs.declared.DateAnswer.{DateAnswer}
-use Rattle.host.specs.Parts.{IsNumber, IsDay, IsDate}
-
-pub is-number : {found meant : NumberAnswer} → found ≡ meant → IsNumber found meant
-is-number e = record { refusal = ap (λ (a : NumberAnswer). a .refusal) e; number = ap (λ (a : NumberAnswer). a .number) e }
+use Rattle.host.specs.Parts.{IsDay, IsDate}
 
 pub is-day : {found meant : DayAnswer} → found ≡ meant → IsDay found meant
 is-day e =

@@ -2,12 +2,7 @@
 -- Assumes nothing.
 use mathlib.Core.Path.{_≡_}
 use Rattle.days.specs.declared.DayAnswer.{DayAnswer}
-use Rattle.days.specs.declared.NumberAnswer.{NumberAnswer}
 use Rattle.civil.specs.declared.DateAnswer.{DateAnswer}
-
-pub record IsNumber (found meant : NumberAnswer) : Type 0 where
-  pub refusal : found .refusal ≡ meant .refusal
-  pub number : found .number ≡ meant .number
 
 pub record IsDay (found meant : DayAnswer) : Type 0 where
   pub refusal : found .refusal ≡ meant .refusal

@@ -8,10 +8,11 @@ use saka::LunarDate;
 ghost use mathlib.Core.Bool.{false};
 ghost use mathlib.Core.Path.{_≡_};
 ghost use Rattle.days.specs.Days.{dayOf, numberOf, nextOf};
+ghost use Rattle.days.specs.Parts.{IsNumber};
 ghost use Rattle.civil.specs.Answers.{dayOfDate, dateOfDay};
 ghost use Rattle.saka.specs.LunarDays.{lunarDay};
 ghost use Rattle.host.specs.Calls.{dateFrom, pairFrom, lunarDateFrom, markFrom};
-ghost use Rattle.host.specs.Parts.{IsNumber, IsDay, IsDate};
+ghost use Rattle.host.specs.Parts.{IsDay, IsDate};
 
 // The libraries' answers, said number by number, for the calls below.
 fn day_of_date(year: u32, month: u32, day: u32) -> NumberAnswer

@@ -6,7 +6,7 @@ use longitudes::Body;
 use panchanga::FIRST_EDITION;
 use planets::Planet;
 ghost use mathlib.Core.Path.{_≡_};
-ghost use Rattle.days.specs.Days.{pairAt, weekdayAt};
+ghost use Rattle.days.specs.Days.{weekdayAt};
 ghost use Rattle.longitudes.specs.Longitudes.{longitudeAt, thirdsAt};
 ghost use Rattle.longitudes.specs.Answers.{bodyNumber};
 ghost use Rattle.panchanga.specs.TrueLongitudes.{firstEdition};
@@ -14,28 +14,18 @@ ghost use Rattle.panchanga.specs.OnDays.{trueSunAt, trueMoonAt, tithiAt, naksha
 ghost use Rattle.planets.specs.OnDays.{planetNumber, truePlanetAt};
 ghost use Rattle.host.specs.Calls.{onNumber};
 
-// Past the last day it is out of range, and whatever takes it refuses it.
-fn pair(number: u32) -> Day
-    ensures { λ r. ⌜ r ≡ pairAt number ⌝ }
-{
-    Day {
-        cycle: number / Day::CYCLE_DAYS,
-        within: number % Day::CYCLE_DAYS,
-    }
-}
-
 // 0 Monday to 6 Sunday.
 #[no_mangle]
 pub extern "C" fn graha_day_weekday(day: u32) -> u32
     ensures { λ r. ⌜ r ≡ onNumber weekdayAt day ⌝ }
 {
-    pair(day).weekday().number
+    Day::at(day).weekday().number
 }
 
 fn mean_longitude(body: Body, day: u32) -> u32
     ensures { λ r. ⌜ r ≡ onNumber (longitudeAt (bodyNumber body)) day ⌝ }
 {
-    longitudes::mean_longitude(body, pair(day)).seconds
+    longitudes::mean_longitude(body, Day::at(day)).seconds
 }
 
 #[no_mangle]
@@ -105,7 +95,7 @@ pub extern "C" fn graha_mean_saturn(day: u32) -> u32
 fn mean_thirds(body: Body, day: u32) -> u32
     ensures { λ r. ⌜ r ≡ onNumber (thirdsAt (bodyNumber body)) day ⌝ }
 {
-    longitudes::mean_thirds(body, pair(day)).number
+    longitudes::mean_thirds(body, Day::at(day)).number
 }
 
 #[no_mangle]
@@ -175,48 +165,48 @@ pub extern "C" fn graha_mean_saturn_thirds(day: u32) -> u32
 pub extern "C" fn graha_true_sun(day: u32) -> u32
     ensures { λ r. ⌜ r ≡ onNumber trueSunAt day ⌝ }
 {
-    panchanga::true_sun(pair(day)).number
+    panchanga::true_sun(Day::at(day)).number
 }
 
 #[no_mangle]
 pub extern "C" fn graha_true_moon(day: u32) -> u32
     ensures { λ r. ⌜ r ≡ onNumber (trueMoonAt firstEdition) day ⌝ }
 {
-    panchanga::true_moon(FIRST_EDITION, pair(day)).number
+    panchanga::true_moon(FIRST_EDITION, Day::at(day)).number
 }
 
 #[no_mangle]
 pub extern "C" fn graha_tithi(day: u32) -> u32
     ensures { λ r. ⌜ r ≡ onNumber (tithiAt firstEdition) day ⌝ }
 {
-    panchanga::tithi(FIRST_EDITION, pair(day)).number
+    panchanga::tithi(FIRST_EDITION, Day::at(day)).number
 }
 
 #[no_mangle]
 pub extern "C" fn graha_nakshatra(day: u32) -> u32
     ensures { λ r. ⌜ r ≡ onNumber (nakshatraAt firstEdition) day ⌝ }
 {
-    panchanga::nakshatra(FIRST_EDITION, pair(day)).number
+    panchanga::nakshatra(FIRST_EDITION, Day::at(day)).number
 }
 
 #[no_mangle]
 pub extern "C" fn graha_yoga(day: u32) -> u32
     ensures { λ r. ⌜ r ≡ onNumber (yogaAt firstEdition) day ⌝ }
 {
-    panchanga::yoga(FIRST_EDITION, pair(day)).number
+    panchanga::yoga(FIRST_EDITION, Day::at(day)).number
 }
 
 #[no_mangle]
 pub extern "C" fn graha_karana(day: u32) -> u32
     ensures { λ r. ⌜ r ≡ onNumber (karanaAt firstEdition) day ⌝ }
 {
-    panchanga::karana(FIRST_EDITION, pair(day)).number
+    panchanga::karana(FIRST_EDITION, Day::at(day)).number
 }
 
 fn true_planet(planet: Planet, day: u32) -> u32
     ensures { λ r. ⌜ r ≡ onNumber (truePlanetAt (planetNumber planet)) day ⌝ }
 {
-    planets::true_longitude(planet, pair(day)).number
+    planets::true_longitude(planet, Day::at(day)).number
 }
 
 #[no_mangle]

@@ -1,6 +1,6 @@
 -- `day_of_date` meets its contract: the library's answer, number by number.
 use borrow.Author.Needs.{needs}
-use Rattle.host.proofs.Parts.{is-number}
+use Rattle.days.proofs.Laws.{is-number}
 use Rattle.host.proofs.calendar.day_of_date.Statement.{statement}
 use Rattle.host.proofs.calendar.day_of_date.Tie as tie
 

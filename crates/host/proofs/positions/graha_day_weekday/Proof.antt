@@ -5,14 +5,14 @@ use Rattle.host.proofs.OnNumbers.{on-number}
 use Rattle.host.proofs.positions.graha_day_weekday.Statement.{statement}
 use Rattle.host.proofs.positions.graha_day_weekday.Tie as tie
 
-pair-requires : tie.Need-pair-requires
-pair-requires c κs = search needs
+at-requires : tie.Need-at-requires
+at-requires c κs = search needs
 
 weekday-requires : tie.Need-weekday-requires
 weekday-requires c κs = search needs
 
 returns : tie.Need-returns
-returns c = on-number weekdayAt _ (c .before .pair .ensures) (c .weekday .ensures)
+returns c = on-number weekdayAt _ (c .before .at .ensures) (c .weekday .ensures)
 
 pub graha-day-weekday-spec : {M : Type 1} → statement M
-graha-day-weekday-spec = tie.close (tie.spec pair-requires weekday-requires returns)
+graha-day-weekday-spec = tie.close (tie.spec at-requires weekday-requires returns)

@@ -9,14 +9,14 @@ use Rattle.host.proofs.OnNumbers.{on-number}
 use Rattle.host.proofs.positions.graha_karana.Statement.{statement}
 use Rattle.host.proofs.positions.graha_karana.Tie as tie
 
-pair-requires : tie.Need-pair-requires
-pair-requires c κs = search needs
+at-requires : tie.Need-at-requires
+at-requires c κs = search needs
 
 karana-requires : tie.Need-karana-requires
 karana-requires c κs = search needs
 
 returns : tie.Need-returns
-returns c = on-number (karanaAt firstEdition) _ (c .before .pair .ensures) (c .karana .ensures ∙ first-edition karanaAt _)
+returns c = on-number (karanaAt firstEdition) _ (c .before .at .ensures) (c .karana .ensures ∙ first-edition karanaAt _)
 
 pub graha-karana-spec : {M : Type 1} → statement M
-graha-karana-spec = tie.close (tie.spec pair-requires karana-requires returns)
+graha-karana-spec = tie.close (tie.spec at-requires karana-requires returns)

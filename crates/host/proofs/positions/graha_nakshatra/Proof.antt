@@ -9,14 +9,14 @@ use Rattle.host.proofs.OnNumbers.{on-number}
 use Rattle.host.proofs.positions.graha_nakshatra.Statement.{statement}
 use Rattle.host.proofs.positions.graha_nakshatra.Tie as tie
 
-pair-requires : tie.Need-pair-requires
-pair-requires c κs = search needs
+at-requires : tie.Need-at-requires
+at-requires c κs = search needs
 
 nakshatra-requires : tie.Need-nakshatra-requires
 nakshatra-requires c κs = search needs
 
 returns : tie.Need-returns
-returns c = on-number (nakshatraAt firstEdition) _ (c .before .pair .ensures) (c .nakshatra .ensures ∙ first-edition nakshatraAt _)
+returns c = on-number (nakshatraAt firstEdition) _ (c .before .at .ensures) (c .nakshatra .ensures ∙ first-edition nakshatraAt _)
 
 pub graha-nakshatra-spec : {M : Type 1} → statement M
-graha-nakshatra-spec = tie.close (tie.spec pair-requires nakshatra-requires returns)
+graha-nakshatra-spec = tie.close (tie.spec at-requires nakshatra-requires returns)

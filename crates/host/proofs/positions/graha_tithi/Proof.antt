@@ -9,14 +9,14 @@ use Rattle.host.proofs.OnNumbers.{on-number}
 use Rattle.host.proofs.positions.graha_tithi.Statement.{statement}
 use Rattle.host.proofs.positions.graha_tithi.Tie as tie
 
-pair-requires : tie.Need-pair-requires
-pair-requires c κs = search needs
+at-requires : tie.Need-at-requires
+at-requires c κs = search needs
 
 tithi-requires : tie.Need-tithi-requires
 tithi-requires c κs = search needs
 
 returns : tie.Need-returns
-returns c = on-number (tithiAt firstEdition) _ (c .before .pair .ensures) (c .tithi .ensures ∙ first-edition tithiAt _)
+returns c = on-number (tithiAt firstEdition) _ (c .before .at .ensures) (c .tithi .ensures ∙ first-edition tithiAt _)
 
 pub graha-tithi-spec : {M : Type 1} → statement M
-graha-tithi-spec = tie.close (tie.spec pair-requires tithi-requires returns)
+graha-tithi-spec = tie.close (tie.spec at-requires tithi-requires returns)

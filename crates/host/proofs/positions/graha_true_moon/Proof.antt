@@ -9,14 +9,14 @@ use Rattle.host.proofs.OnNumbers.{on-number}
 use Rattle.host.proofs.positions.graha_true_moon.Statement.{statement}
 use Rattle.host.proofs.positions.graha_true_moon.Tie as tie
 
-pair-requires : tie.Need-pair-requires
-pair-requires c κs = search needs
+at-requires : tie.Need-at-requires
+at-requires c κs = search needs
 
 true-moon-requires : tie.Need-true-moon-requires
 true-moon-requires c κs = search needs
 
 returns : tie.Need-returns
-returns c = on-number (trueMoonAt firstEdition) _ (c .before .pair .ensures) (c .true-moon .ensures ∙ first-edition trueMoonAt _)
+returns c = on-number (trueMoonAt firstEdition) _ (c .before .at .ensures) (c .true-moon .ensures ∙ first-edition trueMoonAt _)
 
 pub graha-true-moon-spec : {M : Type 1} → statement M
-graha-true-moon-spec = tie.close (tie.spec pair-requires true-moon-requires returns)
+graha-true-moon-spec = tie.close (tie.spec at-requires true-moon-requires returns)

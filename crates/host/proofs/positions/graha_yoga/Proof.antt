@@ -9,14 +9,14 @@ use Rattle.host.proofs.OnNumbers.{on-number}
 use Rattle.host.proofs.positions.graha_yoga.Statement.{statement}
 use Rattle.host.proofs.positions.graha_yoga.Tie as tie
 
-pair-requires : tie.Need-pair-requires
-pair-requires c κs = search needs
+at-requires : tie.Need-at-requires
+at-requires c κs = search needs
 
 yoga-requires : tie.Need-yoga-requires
 yoga-requires c κs = search needs
 
 returns : tie.Need-returns
-returns c = on-number (yogaAt firstEdition) _ (c .before .pair .ensures) (c .yoga .ensures ∙ first-edition yogaAt _)
+returns c = on-number (yogaAt firstEdition) _ (c .before .at .ensures) (c .yoga .ensures ∙ first-edition yogaAt _)
 
 pub graha-yoga-spec : {M : Type 1} → statement M
-graha-yoga-spec = tie.close (tie.spec pair-requires yoga-requires returns)
+graha-yoga-spec = tie.close (tie.spec at-requires yoga-requires returns)

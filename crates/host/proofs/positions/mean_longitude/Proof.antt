@@ -9,8 +9,8 @@ use Rattle.host.proofs.OnNumbers.{on-number}
 use Rattle.host.proofs.positions.mean_longitude.Statement.{statement}
 use Rattle.host.proofs.positions.mean_longitude.Tie as tie
 
-pair-requires : tie.Need-pair-requires
-pair-requires c κs = search needs
+at-requires : tie.Need-at-requires
+at-requires c κs = search needs
 
 mean-longitude-requires : tie.Need-mean-longitude-requires
 mean-longitude-requires c κs = search needs
@@ -19,7 +19,7 @@ returns : tie.Need-returns
 returns c =
     ap (λ (a : MeanLongitude). a .seconds) (c .mean-longitude .ensures)
     ∙ seconds-on-day _ _
-    ∙ on-number (longitudeAt (bodyNumber (c .before .before .args .body))) _ (c .before .pair .ensures) refl
+    ∙ on-number (longitudeAt (bodyNumber (c .before .before .args .body))) _ (c .before .at .ensures) refl
 
 pub mean-longitude-spec : {M : Type 1} → statement M
-mean-longitude-spec = tie.close (tie.spec pair-requires mean-longitude-requires returns)
+mean-longitude-spec = tie.close (tie.spec at-requires mean-longitude-requires returns)

@@ -6,14 +6,14 @@ use Rattle.host.proofs.OnNumbers.{on-number}
 use Rattle.host.proofs.positions.mean_thirds.Statement.{statement}
 use Rattle.host.proofs.positions.mean_thirds.Tie as tie
 
-pair-requires : tie.Need-pair-requires
-pair-requires c κs = search needs
+at-requires : tie.Need-at-requires
+at-requires c κs = search needs
 
 mean-thirds-requires : tie.Need-mean-thirds-requires
 mean-thirds-requires c κs = search needs
 
 returns : tie.Need-returns
-returns c = on-number (thirdsAt (bodyNumber (c .before .before .args .body))) _ (c .before .pair .ensures) (c .mean-thirds .ensures)
+returns c = on-number (thirdsAt (bodyNumber (c .before .before .args .body))) _ (c .before .at .ensures) (c .mean-thirds .ensures)
 
 pub mean-thirds-spec : {M : Type 1} → statement M
-mean-thirds-spec = tie.close (tie.spec pair-requires mean-thirds-requires returns)
+mean-thirds-spec = tie.close (tie.spec at-requires mean-thirds-requires returns)
