@@ -1,9 +1,11 @@
 -- How the test of a condition comes out: one that is not given holds, and of one that is given the value found decides.
 -- Assumes nothing.
-use Prim.Native.Nat.{ℕ}
-use mathlib.Core.Path.{_≡_, subst}
-use mathlib.Core.Bool.{Bool, true, false, true≢false}
-use Rattle.days.specs.Weekdays.{inSet}
+use Prim.Native.Nat.{ℕ, _≤_}
+use mathlib.Core.Path.{_≡_, sym, subst, _∙_}
+use mathlib.Core.Bool.{Bool, true, false, _&&_, true≢false}
+use lib.Dec.{leb}
+use borrow.Author.Tests.{le-leb}
+use Rattle.days.specs.Days.{lastDay, weekdayOn}
 use Rattle.query.specs.declared.Asked.{Asked}
 use Rattle.query.specs.declared.Weekdays.{Weekdays}
 use Rattle.query.specs.declared.BodyArcs.{BodyArcs}
@@ -25,12 +27,16 @@ module _ (asked : Asked) (value : ℕ) where
   pub number-of : {x : ℕ} {t : Tested} → x ≡ value → TestedFor (meets asked x) x t → TestedFor (meets asked value) value t
   number-of {t = t} e tested = subst (λ (n : ℕ). TestedFor (meets asked n) n t) e tested
 
-module _ (asked : Weekdays) (value : ℕ) where
-  pub no-weekdays : asked .given ≡ false → TestedFor (weekdayMet asked value) value (record { holds = true; found = 0 })
-  no-weekdays g = none _ _ (unfold weekdayMet in rw g)
+-- the weekday of day n, as the test of a weekday comes out
+module _ (asked : Weekdays) (n : ℕ) (h : n ≤ lastDay) {b : Bool} (e : b ≡ (leb n lastDay && weekdayMet asked (weekdayOn n))) where
+  met : {t : Bool} → b ≡ t → t ≡ weekdayMet asked (weekdayOn n)
+  met f = sym f ∙ e ∙ rw (le-leb n lastDay h)
 
-  pub weekdays : {h : Bool} {x : ℕ} → asked .given ≡ true → x ≡ value → h ≡ inSet (asked .set) x → TestedFor (weekdayMet asked value) value (record { holds = h; found = x })
-  weekdays g e i = some (unfold weekdayMet in rw (g, i, e)) e
+  pub weekday-holds : b ≡ true → TestedFor (weekdayMet asked (weekdayOn n)) (weekdayOn n) (record { holds = true; found = 0 })
+  weekday-holds f = none _ _ (met f)
+
+  pub weekday-found : {x : ℕ} → b ≡ false → x ≡ weekdayOn n → TestedFor (weekdayMet asked (weekdayOn n)) (weekdayOn n) (record { holds = false; found = x })
+  weekday-found f g = some (met f) g
 
 module _ (asked : BodyArcs) (value : ℕ) where
   pub no-arcs : arcsGiven asked ≡ false → TestedFor (inArcs asked value) value (record { holds = true; found = 0 })

@@ -9,7 +9,7 @@ use query::Weekdays;
 ghost use mathlib.Core.Path.{_≡_};
 ghost use mathlib.Core.Bool.{true};
 ghost use Prim.Native.Nat.{_≤_};
-ghost use Rattle.days.specs.Days.{lastDay, inRange, weekdayAt};
+ghost use Rattle.days.specs.Days.{lastDay, inRange, weekdayOn};
 ghost use Rattle.longitudes.specs.Longitudes.{longitudeAt};
 ghost use Rattle.longitudes.specs.Answers.{bodyNumber};
 ghost use Rattle.panchanga.specs.TrueLongitudes.{isEdition};
@@ -67,22 +67,23 @@ struct Tested {
     found: u32,
 }
 
-// A condition that is not given.
-const NOT_ASKED: Tested = Tested {
+// A condition that holds, as one does that is not given.
+const HOLDS: Tested = Tested {
     holds: true,
     found: 0,
 };
 
-fn test_weekday(asked: Weekdays, day: Day) -> Tested
-    requires { ⌜ inRange day ≡ true ⌝ }
-    ensures { λ r. ⌜ TestedFor (weekdayMet asked (weekdayAt day)) (weekdayAt day) r ⌝ }
+fn test_weekday(asked: Weekdays, number: u32) -> Tested
+    requires { ⌜ number ≤ lastDay ⌝ }
+    ensures { λ r. ⌜ TestedFor (weekdayMet asked (weekdayOn number)) (weekdayOn number) r ⌝ }
 {
-    if !asked.given {
-        return NOT_ASKED;
+    if asked.admit(number) {
+        return HOLDS;
     }
+    let day = Day::at(number);
     let found = day.weekday();
     Tested {
-        holds: days::set_has(asked.set, found.number),
+        holds: false,
         found: found.number,
     }
 }
@@ -101,7 +102,7 @@ fn test_tithi(asked: Asked, edition: u32, day: Day) -> Tested
     ensures { λ r. ⌜ TestedFor (meets asked (tithiAt edition day)) (tithiAt edition day) r ⌝ }
 {
     if !asked.given {
-        return NOT_ASKED;
+        return HOLDS;
     }
     let found = panchanga::tithi(edition, day);
     test_number(asked, found.number)
@@ -112,7 +113,7 @@ fn test_nakshatra(asked: Asked, edition: u32, day: Day) -> Tested
     ensures { λ r. ⌜ TestedFor (meets asked (nakshatraAt edition day)) (nakshatraAt edition day) r ⌝ }
 {
     if !asked.given {
-        return NOT_ASKED;
+        return HOLDS;
     }
     let found = panchanga::nakshatra(edition, day);
     test_number(asked, found.number)
@@ -123,7 +124,7 @@ fn test_yoga(asked: Asked, edition: u32, day: Day) -> Tested
     ensures { λ r. ⌜ TestedFor (meets asked (yogaAt edition day)) (yogaAt edition day) r ⌝ }
 {
     if !asked.given {
-        return NOT_ASKED;
+        return HOLDS;
     }
     let found = panchanga::yoga(edition, day);
     test_number(asked, found.number)
@@ -134,7 +135,7 @@ fn test_arcs(asked: BodyArcs, body: Body, day: Day) -> Tested
     ensures { λ r. ⌜ TestedFor (inArcs asked (longitudeAt (bodyNumber body) day)) (longitudeAt (bodyNumber body) day) r ⌝ }
 {
     if !asked.given() {
-        return NOT_ASKED;
+        return HOLDS;
     }
     let found = longitudes::mean_longitude(body, day);
     Tested {
@@ -184,7 +185,7 @@ fn first_unmet(query: Query, day: u32) -> Reason
         };
     }
     let pair = Day::from_number(day).day;
-    let weekday = test_weekday(query.weekdays, pair);
+    let weekday = test_weekday(query.weekdays, day);
     if !weekday.holds {
         return Reason::Weekday {
             asked: query.weekdays.set,

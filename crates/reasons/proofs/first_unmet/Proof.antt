@@ -7,7 +7,7 @@ use mathlib.Core.Path.{_≡_, ap, _∙_}
 use Prim.Native.Nat.{ℕ}
 use lib.ListN.{drop}
 use Rattle.days.specs.declared.DayAnswer.{DayAnswer}
-use Rattle.days.proofs.Laws.{ThatDay, that-day, that-weekday, day-of}
+use Rattle.days.proofs.Laws.{ThatDay, that-day, day-of}
 use Rattle.panchanga.specs.TrueLongitudes.{isEdition}
 use Rattle.reasons.specs.Conditions.{Cause, conditionsOn, firstUnmet}
 use Rattle.reasons.specs.Reasons.{causeOf}
@@ -54,19 +54,19 @@ day : (c : tie.After-from-number) → ThatDay (start (c .before) .args .day) (c 
 day c = let e = c .from-number .ensures in that-day _ _ e (ap (λ (a : DayAnswer). a .refusal) (e ∙ day-of _ (start (c .before) .pre .0)))
 
 test-weekday-requires : tie.Need-test-weekday-requires
-test-weekday-requires c κs = day (c .before) .range
+test-weekday-requires c κs = day (c .before) .number
 
 returns-3 : tie.Need-returns-3
 unfolding causeOf conditionsOn
 returns-3 c =
     let at = c .before .before in
-    tested-here 3 _ _ (rw (that-weekday (day (at .before .before))) at (at .test-weekday .ensures)) (c .if3 .taken) ∙ span-met (at .before .before .before)
+    tested-here 3 _ _ (at .test-weekday .ensures) (c .if3 .taken) ∙ span-met (at .before .before .before)
 
 weekday-met : (c : tie.Else3) → from (start (in-span c)) 3 ≡ from (start (in-span c)) 0
 unfolding conditionsOn
 weekday-met c =
     let at = c .before .before in
-    tested-next 3 _ _ (rw (that-weekday (day (at .before .before))) at (at .test-weekday .ensures)) (c .if3 .left) ∙ span-met (in-span c)
+    tested-next 3 _ _ (at .test-weekday .ensures) (c .if3 .left) ∙ span-met (in-span c)
 
 known : (c : tie.Else3) → ThatDay (start (in-span c) .args .day) (c .before .before .before .before .from-number .result)
 known c = day (c .before .before .before .before)
