@@ -4,7 +4,6 @@ use mathlib.Core.Bool.{cond}
 use mathlib.Core.List.{List}
 use mathlib.Core.Path.{_≡_}
 use Prim.Native.Nat.{ℕ}
-use Rattle.days.specs.declared.NumberAnswer.{NumberAnswer}
 use Rattle.longitudes.specs.declared.MeanLongitude.{MeanLongitude}
 use Rattle.older_motions.specs.declared.Farthest.{Farthest}
 use Rattle.panchanga.specs.declared.Panchanga.{Panchanga}
@@ -40,10 +39,6 @@ pub record BridgeElements (meant found : Panchanga) : Type 0 where
   pub nakshatra : found .nakshatra ≡ meant .nakshatra
   pub yoga : found .yoga ≡ meant .yoga
   pub karana : found .karana ≡ meant .karana
-
-pub record BridgeElement (meant found : NumberAnswer) : Type 0 where
-  pub refusal : found .refusal ≡ meant .refusal
-  pub number : found .number ≡ meant .number
 
 pub record BridgePlanets (meant found : TrueLongitudes) : Type 0 where
   pub refusal : found .refusal ≡ meant .refusal

@@ -1,4 +1,5 @@
 // A body's mean longitude as C calls, each number of its answer by a call of its own.
+use days::Day;
 use days::refusal;
 use longitudes::Body;
 use longitudes::MeanLongitude;
@@ -39,7 +40,7 @@ fn longitude(body: u32, day: u32) -> MeanLongitude
     if LAST_BODY < body {
         return NO_BODY;
     }
-    longitudes::mean_longitude(body_of(body), super::pair(day))
+    longitudes::mean_longitude(body_of(body), Day::at(day))
 }
 
 #[no_mangle]

@@ -1,18 +1,20 @@
 // The true Sun and Moon and the elements of a day in an edition as C calls: all together, each number by a call of its
 // own, and those that the library hands back one by one.
+use days::Day;
 use days::NumberAnswer;
 use days::refusal;
 use panchanga::Panchanga;
 ghost use mathlib.Core.Path.{_≡_};
 ghost use Rattle.days.specs.Days.{pairAt};
+ghost use Rattle.days.specs.Parts.{IsNumber};
 ghost use Rattle.panchanga.specs.OnDays.{trueMoonOf, panchangaOf};
 ghost use Rattle.bridge.specs.Elements.{elementFrom};
-ghost use Rattle.bridge.specs.Numbers.{BridgeElements, BridgeElement};
+ghost use Rattle.bridge.specs.Numbers.{BridgeElements};
 
 fn elements(edition: u32, day: u32) -> Panchanga
     ensures { λ r. ⌜ BridgeElements (panchangaOf edition (pairAt day)) r ⌝ }
 {
-    panchanga::of_day(edition, super::pair(day))
+    panchanga::of_day(edition, Day::at(day))
 }
 
 #[no_mangle]
@@ -65,9 +67,9 @@ pub extern "C" fn bridge_elements_karana(edition: u32, day: u32) -> u32
 }
 
 fn moon(edition: u32, day: u32) -> NumberAnswer
-    ensures { λ r. ⌜ BridgeElement (trueMoonOf edition (pairAt day)) r ⌝ }
+    ensures { λ r. ⌜ IsNumber r (trueMoonOf edition (pairAt day)) ⌝ }
 {
-    panchanga::true_moon(edition, super::pair(day))
+    panchanga::true_moon(edition, Day::at(day))
 }
 
 #[no_mangle]
@@ -86,9 +88,9 @@ pub extern "C" fn bridge_moon_number(edition: u32, day: u32) -> u32
 
 // The tithi for 0, the nakshatra for 1, the yoga for 2, the karana for 3; others are refused as a body above 8 is.
 fn element(which: u32, edition: u32, day: u32) -> NumberAnswer
-    ensures { λ r. ⌜ BridgeElement (elementFrom which edition (pairAt day)) r ⌝ }
+    ensures { λ r. ⌜ IsNumber r (elementFrom which edition (pairAt day)) ⌝ }
 {
-    let pair = super::pair(day);
+    let pair = Day::at(day);
     match which {
         0 => panchanga::tithi(edition, pair),
         1 => panchanga::nakshatra(edition, pair),

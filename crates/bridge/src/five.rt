@@ -1,4 +1,5 @@
 // The five planets of a day as they are handed back together, each place by a call of its own.
+use days::Day;
 use planets::TrueLongitudes;
 ghost use mathlib.Core.Path.{_≡_};
 ghost use lib.ListN.{getD};
@@ -9,7 +10,7 @@ ghost use Rattle.bridge.specs.Numbers.{BridgePlanets};
 fn five(day: u32) -> TrueLongitudes
     ensures { λ r. ⌜ BridgePlanets (truePlanetsOf (pairAt day)) r ⌝ }
 {
-    planets::true_longitudes(super::pair(day))
+    planets::true_longitudes(Day::at(day))
 }
 
 #[no_mangle]

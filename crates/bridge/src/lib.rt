@@ -12,7 +12,6 @@ mod pieces;
 mod rows;
 mod whys;
 
-use days::Day;
 use days::refusal;
 use query::Arc;
 use query::Asked;
@@ -22,22 +21,11 @@ use query::Weekdays;
 use search::Found;
 ghost use mathlib.Core.Path.{_≡_};
 ghost use Prim.Native.Nat.{_<_};
-ghost use Rattle.days.specs.Days.{pairAt};
 ghost use Rattle.bridge.specs.Bytes.{numberFrom, weekdaysFrom, askedFrom, arcFrom, bodyArcsFrom, arcsFrom, queryFrom};
 ghost use Rattle.bridge.specs.Answers.{bridgeResult, bridgeList, bridgeLength, bridgeLooked};
 ghost use Rattle.bridge.specs.Numbers.{BridgeMeasured};
 
 const QUERY_BYTES: usize = 260;
-
-// Past the last day the pair is out of range, and refused.
-fn pair(day: u32) -> Day
-    ensures { λ r. ⌜ r ≡ pairAt day ⌝ }
-{
-    Day {
-        cycle: day / Day::CYCLE_DAYS,
-        within: day % Day::CYCLE_DAYS,
-    }
-}
 
 fn number(query: &[u8], place: usize) -> u32
     ensures { λ r. ⌜ r ≡ numberFrom (now (query .entry)) place ⌝ }
