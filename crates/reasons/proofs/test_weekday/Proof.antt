@@ -1,4 +1,5 @@
--- `test_weekday` meets its contract: a weekday that is admitted holds, and of any other the day's is told. Assumes nothing.
+-- `test_weekday` meets its contract: a weekday that is admitted holds, and of any other the day's is told. Assumes
+-- nothing.
 use borrow.Author.Needs.{needs}
 use mathlib.Core.Path.{ap, _∙_}
 use Rattle.days.specs.Days.{weekdayAt, weekdayOn}
