@@ -31,7 +31,7 @@ fn heading() -> Line
 fn body_line(body: usize, numerator: u64, divisor: u64, day: u32) -> Line
     ensures { λ r. ⌜ Holds r (driftLine body numerator divisor day) ⌝ }
 {
-    let names = words::BODIES;
+    let names = words::BODY_NAMES;
     let name = words::name_at(&names, body);
     let fraction = Line::empty()
         .text(name)

@@ -86,7 +86,7 @@ fn put_arc(line: Line, arc: Arc) -> Line
 fn put_arcs(line: Line, body: u32, asked: BodyArcs, found: u32) -> Line
     ensures { λ r. ⌜ r ≡ withBytes line (arcsText body (arcNumbers (asked .first) ++ arcNumbers (asked .second)) found) ⌝ }
 {
-    let names = words::BODIES;
+    let names = words::BODY_NAMES;
     let name = words::name_at(&names, body as usize);
     let first = put_arc(line.text(name).text(b" asked"), asked.first);
     let both = put_arc(first, asked.second);

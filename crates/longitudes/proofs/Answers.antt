@@ -3,17 +3,21 @@
 -- Assumes nothing.
 use mathlib.Core.Bool.{Bool, true, false}
 use mathlib.Core.Path.{_≡_, refl, sym, ap, _∙_}
-use Prim.Native.Nat.{ℕ, _*_, _/_, _<_}
+use Prim.Native.Nat.{ℕ, _+_, _*_, _/_, _<_}
+use native.Mathlib.Omega.{arith}
 use lib.ListN.{getD}
 use Rattle.days.specs.declared.Day.{Day}
 use Rattle.days.specs.Days.{inRange, onDay}
 use Rattle.days.proofs.Laws.{given, refused}
+use Rattle.integers.specs.Integers.{reduced}
 use Rattle.longitudes.specs.declared.Body.{Body}
+use Rattle.longitudes.specs.declared.Body.the-variants.{Sun, Moon, MoonApogee, MoonNode, Mars, MercuryAnomaly, Jupiter, VenusAnomaly, Saturn}
 use Rattle.longitudes.specs.declared.MeanLongitude.{MeanLongitude}
 use Rattle.longitudes.specs.declared.MeanLongitudes.{MeanLongitudes}
-use Rattle.longitudes.specs.Longitudes.{longitudeAt, thirdsAt}
+use Rattle.longitudes.specs.Longitudes.{circle, noRow, table, exactTimesQ, longitudeAt, remainderAt, divisorAt, thirdsAt}
 use Rattle.longitudes.specs.Answers.{bodyNumber, theLongitude, noLongitude, longitudeOf, longitudesOf}
-use Rattle.longitudes.proofs.Table.{remainder-at, thirds-are, nine-at, thirds-nine-at}
+use Rattle.longitudes.proofs.Mean.{remainder-below, exact-whole}
+use Rattle.longitudes.proofs.Table.{row-in-range, remainder-at, thirds-are, nine-at, thirds-nine-at}
 
 pub longitude-given : (b : Body) (d : Day) → inRange d ≡ true → longitudeOf b d ≡ theLongitude (bodyNumber b) d
 unfolding longitudeOf
@@ -33,6 +37,36 @@ seconds-on-day b d = go (inRange d) refl
     go : (t : Bool) → inRange d ≡ t → longitudeOf b d .seconds ≡ onDay (longitudeAt (bodyNumber b)) d .number
     go true e = rw (longitude-given b d e, given (longitudeAt (bodyNumber b)) d e)
     go false e = rw (longitude-refused b d e, refused (longitudeAt (bodyNumber b)) d e)
+
+-- WHAT IS LEFT OVER, of the answer itself: it is below its divisor, and with the seconds it is the exact longitude,
+-- reduced by whole circles, both sides times the divisor
+pub record Whole (b : Body) (d : Day) : Type 0 where
+  pub below : longitudeOf b d .remainder < longitudeOf b d .divisor
+  pub exact :
+      longitudeOf b d .seconds * longitudeOf b d .divisor + longitudeOf b d .remainder
+      ≡ reduced (exactTimesQ (getD table (bodyNumber b) noRow) (d .cycle) (d .within)) (circle * longitudeOf b d .divisor)
+
+pub answer-whole : (b : Body) (d : Day) → inRange d ≡ true → Whole b d
+unfolding longitudeAt remainderAt divisorAt
+answer-whole b d e =
+    record {
+      below = rw (longitude-given b d e) (remainder-below _ _ _ positive);
+      exact = rw (longitude-given b d e) (exact-whole (getD table (bodyNumber b) noRow) (d .cycle) (d .within) positive);
+    }
+  where
+    body-small : (b : Body) → bodyNumber b < 9
+    body-small Sun = omega arith
+    body-small Moon = omega arith
+    body-small MoonApogee = omega arith
+    body-small MoonNode = omega arith
+    body-small Mars = omega arith
+    body-small MercuryAnomaly = omega arith
+    body-small Jupiter = omega arith
+    body-small VenusAnomaly = omega arith
+    body-small Saturn = omega arith
+
+    positive : 0 < getD table (bodyNumber b) noRow .q
+    positive = row-in-range (bodyNumber b) (body-small b) .divisor
 
 -- each body's of the nine
 pub nine-given : (d : Day) {a : MeanLongitudes} → a ≡ longitudesOf d → inRange d ≡ true → (b : ℕ) → b < 9 → (getD (a .longitudes) b 0 ≡ longitudeAt b d) × (getD (a .thirds) b 0 ≡ thirdsAt b d)

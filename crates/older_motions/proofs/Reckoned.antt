@@ -9,7 +9,7 @@ use Rattle.days.specs.Days.{cycleDays, lastDay}
 use Rattle.longitudes.specs.Longitudes.{circle}
 use Rattle.older_motions.specs.declared.CodedMotion.{CodedMotion}
 use Rattle.older_motions.specs.OlderMotions.{wholeCircle, aheadOn}
-use Rattle.older_motions.specs.Drifts.{motionOf, Sizes}
+use Rattle.older_motions.specs.Parts.{motionOf, Sizes}
 use Rattle.older_motions.proofs.Ahead.{mean-small, older-small, ahead-is, ahead-next}
 
 pub whole-positive : (c : CodedMotion) → Sizes c → 0 < wholeCircle (motionOf c)

@@ -6,7 +6,8 @@ use native.Mathlib.Omega.{arith}
 use Rattle.older_motions.specs.declared.Farthest.{Farthest}
 use Rattle.older_motions.specs.OlderMotions.{OlderMotion, divisorOf, wholeCircle, shorterWay, distanceOn}
 use Rattle.older_motions.specs.declared.Scan.{Scan}
-use Rattle.older_motions.specs.Drifts.{Scans, farthestOver}
+use Rattle.older_motions.specs.Drifts.{farthestOver}
+use Rattle.older_motions.specs.Parts.{Scans}
 use Rattle.older_motions.proofs.Peaks.{Peak, peak-one, peak-stays, peak-moves}
 use Rattle.older_motions.proofs.Laws.{peak-farthest, distance-is}
 

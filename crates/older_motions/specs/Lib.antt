@@ -1,2 +1,3 @@
 pub mod OlderMotions
 pub mod Drifts
+pub mod Parts

@@ -8,7 +8,8 @@ ghost use mathlib.Core.Path.{_≡_};
 ghost use Prim.Native.Nat.{_+_, _-_, _%_, _≤_, _<_};
 ghost use Rattle.days.specs.Days.{lastDay};
 ghost use Rattle.older_motions.specs.OlderMotions.{divisorOf, wholeCircle, aheadOn, shorterWay};
-ghost use Rattle.older_motions.specs.Drifts.{motionOf, Sizes, Scans, farthestOver, noDrifts, driftsOver};
+ghost use Rattle.older_motions.specs.Drifts.{farthestOver, noDrifts, driftsOver};
+ghost use Rattle.older_motions.specs.Parts.{motionOf, Sizes, Scans};
 
 // The largest distance over a span, as a fraction of a second of arc, and the first day that has it.
 pub struct Farthest {

@@ -22,7 +22,7 @@ fn body_line(body: usize, seconds: u32, thirds: u32) -> Line
     requires { ⌜ (body < 9) × (seconds < 1296000) × (thirds < 60) ⌝ }
     ensures { λ r. ⌜ Holds r (bodyLine body seconds thirds) ⌝ }
 {
-    let names = words::BODIES;
+    let names = words::BODY_NAMES;
     let name = words::name_at(&names, body);
     let columns = [seconds / 3600, seconds / 60 % 60, seconds % 60, thirds];
     Line::empty().text(name).numbers(&columns).byte(b'\n')

@@ -6,7 +6,7 @@ ghost use Rattle.words.specs.Words.{isSeparator, inRun, runLength, upTo,
 
 pub const WEEKDAYS: [u8; 56] = *b"monday tuesday wednesday thursday friday saturday sunday";
 
-pub const BODIES: [u8; 54] = *b"sun moon apogee node mars mercury jupiter venus saturn";
+pub const BODY_NAMES: [u8; 54] = *b"sun moon apogee node mars mercury jupiter venus saturn";
 
 // Where the separator is a space, a tab and a carriage return separate too.
 fn separates(separator: u8, b: u8) -> bool
@@ -147,5 +147,5 @@ pub fn weekday_place(word: &[u8]) -> usize
 pub fn body_place(word: &[u8]) -> usize
     ensures { λ r. ⌜ r ≡ placeIn bodyNames (now (word .entry)) ⌝ }
 {
-    place_in(&BODIES, word)
+    place_in(&BODY_NAMES, word)
 }

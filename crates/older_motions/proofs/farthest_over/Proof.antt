@@ -3,7 +3,7 @@ use mathlib.Core.Path.{_≡_}
 use Prim.Native.Nat.{_+_, _-_}
 use native.Mathlib.Omega.{arith}
 use borrow.Author.Needs.{needs}
-use Rattle.older_motions.specs.Drifts.{motionOf}
+use Rattle.older_motions.specs.Parts.{motionOf}
 use Rattle.older_motions.proofs.Laws.{ahead-small}
 use Rattle.older_motions.proofs.Reckoned.{whole-positive}
 use Rattle.older_motions.proofs.Scanning.{Scanned, still, scan-start, scan-stays, scan-moves, scan-end}

@@ -3,7 +3,7 @@
 use Prim.Native.Nat.{_-_}
 use native.Mathlib.Omega.{arith}
 use borrow.Author.Needs.{needs}
-use Rattle.older_motions.specs.Drifts.{motionOf}
+use Rattle.older_motions.specs.Parts.{motionOf}
 use Rattle.older_motions.proofs.Laws.{ahead-small}
 use Rattle.older_motions.proofs.Reckoned.{whole-positive, ahead-after}
 use Rattle.older_motions.proofs.scan_next.Statement.{statement}
