@@ -1,5 +1,5 @@
--- What only contracts of private functions speak of: the motion that a row of the code says, the sizes that it keeps to,
--- and what is kept on the way through a span.
+-- What only contracts of private functions speak of: the motion that a row of the code says, the sizes that it keeps
+-- to, and what is kept on the way through a span.
 -- Assumes nothing.
 use mathlib.Core.Path.{_≡_}
 use Prim.Native.Nat.{ℕ, _+_, _%_, _≤_, _<_}
