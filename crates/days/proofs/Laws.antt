@@ -13,7 +13,7 @@ use Rattle.days.specs.declared.DayAnswer.{DayAnswer}
 use Rattle.days.specs.declared.NumberAnswer.{NumberAnswer}
 use Rattle.days.specs.Refusals.{outOfRange}
 use Rattle.days.specs.Parts.{IsNumber}
-use Rattle.days.specs.Days.{cycleDays, cycles, lastDay, count, weekdayOn, weekdayAt, pairAt, theDay, noDay, theNumber, noNumber, inRange, onDay, dayOf, nextOf, refusedSpanOr, spanRefusal}
+use Rattle.days.specs.Days.{cycleDays, cycles, lastDay, count, weekdayOn, pairAt, theDay, noDay, theNumber, noNumber, inRange, onDay, dayOf, nextOf, refusedSpanOr, spanRefusal}
 
 -- what a pair in range keeps to
 pub in-range : (d : Day) → inRange d ≡ true → (d .cycle < cycles) × (d .within < cycleDays)
@@ -122,10 +122,6 @@ day-of-pair C A h k = day-of (cycleDays * C + A) (omega arith) ∙ ap theDay (pa
 -- the weekday is (5 C + A) mod 7
 pub weekday-by-pair : (d : Day) → (5 * d .cycle + d .within) % 7 ≡ weekdayOn (count d)
 weekday-by-pair d = omega arith
-
--- the weekday of the pair that is handed back for a number is the number's
-pub that-weekday : {n : ℕ} {answer : DayAnswer} → ThatDay n answer → weekdayAt (answer .day) ≡ weekdayOn n
-that-weekday {n} known = ap weekdayAt (known .pair) ∙ ap weekdayOn (count-pair n)
 
 pub next-within : (d : Day) → inRange d ≡ true → d .within < 4015 → nextOf d ≡ theDay (record { cycle = d .cycle; within = d .within + 1 })
 unfolding nextOf
