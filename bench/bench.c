@@ -86,6 +86,17 @@ uint64_t bridge_drift_numerator(uint32_t first, uint32_t last, uint32_t body);
 static void drifts(uint32_t body, size_t unused) { (void)unused, sink += bridge_drift_numerator(0, DAYS - 1, body); }
 static void plain_drifts(uint32_t body, size_t unused) { (void)unused, sink += plain_drift(0, DAYS - 1, body).numerator; }
 
+/* 4,096 dates to days and back. The calls are of the comparison's archive, bridge. */
+uint64_t bridge_dates_to_list(const uint8_t *text, size_t text_len, uint8_t *list, size_t list_len);
+uint64_t bridge_list_to_dates(const uint8_t *list, size_t list_len, uint8_t *text, size_t text_len);
+
+enum { LINES = 4096, LINE = 11 };
+static uint8_t dates[LINE * LINES], other_dates[LINE * LINES];
+static void to_days(uint32_t unused, size_t len) { (void)unused, sink += bridge_dates_to_list(dates, sizeof dates, list, len); }
+static void plain_to_days(uint32_t unused, size_t len) { (void)unused, sink += plain_dates_to_list(dates, sizeof dates, other, len); }
+static void to_dates(uint32_t unused, size_t len) { (void)unused, sink += bridge_list_to_dates(list, 4 * LINES, dates, len); }
+static void plain_to_dates(uint32_t unused, size_t len) { (void)unused, sink += plain_list_to_dates(list, 4 * LINES, other_dates, len); }
+
 /* An angle or a rate of each body on each day. */
 typedef double (*degrees)(uint32_t, uint32_t);
 
@@ -246,6 +257,16 @@ int main(int count, char **word) {
             puts("the two drifts differ");
             return 1;
         }
+    for (uint32_t i = 0; i < LINES; i++) {
+        uint32_t day = i * 98;
+        for (int byte = 0; byte < 4; byte++) list[4 * i + byte] = (uint8_t)(day >> 8 * byte);
+    }
+    pair("4,096 days to dates", search_job(to_dates, 0, sizeof dates), search_job(plain_to_dates, 0, sizeof other_dates), 1.1);
+    pair("4,096 dates to days", search_job(to_days, 0, 4 * LINES), search_job(plain_to_days, 0, 4 * LINES), 1.1);
+    if (memcmp(dates, other_dates, sizeof dates) || memcmp(list, other, 4 * LINES)) {
+        puts("the two lists of dates differ");
+        return 1;
+    }
     pair("nine arms placed", search_job(angles, 0, 0), search_job(angles, 1, 0), 1.1);
     pair("nine arms followed", search_job(rates, 0, 0), search_job(rates, 1, 0), 1.1);
     for (uint32_t day = 0; day < DAYS; day++)

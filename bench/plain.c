@@ -282,3 +282,82 @@ plain_farthest plain_drift(uint32_t first, uint32_t last, uint32_t body) {
     };
     return body < 3 ? three[body] : (plain_farthest){0, 0};
 }
+
+static inline uint64_t refused(uint64_t refusal, uint64_t length) { return refusal << 32 | length; }
+
+static inline int leap(uint32_t y) { return y % 4 == 0 && (y % 100 != 0 || y % 400 == 0); }
+
+/* The days from 1 March of year 0 to a date's, by the Gregorian rule; year 0 counts as 400. */
+static inline uint32_t serial(uint32_t y, uint32_t m, uint32_t d) {
+    uint32_t u = y + (m < 3 ? 399 : 400), p = (m + 9) % 12;
+    return 365 * u + u / 4 - u / 100 + u / 400 + (153 * p + 2) / 5 + d - 1;
+}
+
+#define DAY_0 701293u
+
+/* The day of a line of a date, or the refusal's number with the top bit. */
+static inline uint32_t date_line(const uint8_t *line, size_t len) {
+    static const uint8_t LENGTHS[] = {31, 28, 31, 30, 31, 30, 31, 31, 30, 31, 30, 31};
+    static const uint8_t PLACES[] = {0, 1, 2, 3, 5, 6, 8, 9};
+    if (len != 11 || line[4] != '-' || line[7] != '-' || line[10] != '\n') return 1u << 31 | 15;
+    uint32_t n = 0;
+    for (int i = 0; i < 8; i++) {
+        uint32_t digit = line[PLACES[i]] - '0';
+        if (digit > 9) return 1u << 31 | 15;
+        n = 10 * n + digit;
+    }
+    uint32_t y = n / 10000, m = n / 100 % 100, d = n % 100;
+    if (m < 1 || m > 12 || d < 1 || d > (uint32_t)LENGTHS[m - 1] + (m == 2 && leap(y))) return 1u << 31 | 1;
+    uint32_t day = serial(y, m, d) - DAY_0;
+    return day > LAST ? 1u << 31 | 2 : day;
+}
+
+static inline size_t line_end(const uint8_t *text, size_t len, size_t at) {
+    while (at < len)
+        if (text[at++] == '\n') break;
+    return at;
+}
+
+uint64_t plain_dates_to_list(const uint8_t *text, size_t text_len, uint8_t *list, size_t list_len) {
+    uint64_t lines = 0;
+    for (size_t at = 0, end; at < text_len; at = end, lines++) {
+        end = line_end(text, text_len, at);
+        uint32_t day = date_line(text + at, end - at);
+        if (day >> 31) return refused(day & 0xff, 0);
+    }
+    if (list_len / 4 < lines) return refused(7, lines);
+    size_t to = 0;
+    for (size_t at = 0, end; at < text_len; at = end, to += 4) {
+        end = line_end(text, text_len, at);
+        put(list, to, date_line(text + at, end - at));
+    }
+    return lines;
+}
+
+static inline uint32_t entry(const uint8_t *list, size_t at) {
+    return list[at] | (uint32_t)list[at + 1] << 8 | (uint32_t)list[at + 2] << 16 | (uint32_t)list[at + 3] << 24;
+}
+
+uint64_t plain_list_to_dates(const uint8_t *list, size_t list_len, uint8_t *text, size_t text_len) {
+    size_t entries = list_len / 4;
+    for (size_t i = 0; i < entries; i++)
+        if (entry(list, 4 * i) > LAST) return refused(2, 0);
+    if (text_len < 11 * entries) return refused(7, 11 * entries);
+    for (size_t i = 0; i < entries; i++) {
+        uint32_t s = entry(list, 4 * i) + DAY_0, c = (4 * s + 3) / 146097, w = s - (36524 * c + c / 4), v = (4 * w + 3) / 1461;
+        uint32_t n = w - (365 * v + v / 4), p = (5 * n + 2) / 153;
+        uint32_t d = n - (153 * p + 2) / 5 + 1, m = p < 10 ? p + 3 : p - 9, y = 100 * c + v - 400 + (p >= 10);
+        uint8_t *line = text + 11 * i;
+        line[0] = (uint8_t)('0' + y / 1000);
+        line[1] = (uint8_t)('0' + y / 100 % 10);
+        line[2] = (uint8_t)('0' + y / 10 % 10);
+        line[3] = (uint8_t)('0' + y % 10);
+        line[4] = line[7] = '-';
+        line[5] = (uint8_t)('0' + m / 10);
+        line[6] = (uint8_t)('0' + m % 10);
+        line[8] = (uint8_t)('0' + d / 10);
+        line[9] = (uint8_t)('0' + d % 10);
+        line[10] = '\n';
+    }
+    return 11 * entries;
+}

@@ -54,6 +54,11 @@ plain_found plain_search(uint32_t first, uint32_t last, uint32_t start, uint32_t
  * the span. */
 plain_found plain_sign_entries(uint32_t first, uint32_t last, uint8_t *list, size_t len);
 
+/* Lines of ISO dates to a list of days and back: 2^32 times the refusal's number, and how many entries or bytes were
+ * written. A refusal writes nothing. */
+uint64_t plain_dates_to_list(const uint8_t *text, size_t text_len, uint8_t *list, size_t list_len);
+uint64_t plain_list_to_dates(const uint8_t *list, size_t list_len, uint8_t *text, size_t text_len);
+
 /* Tests every day of the span. */
 plain_found plain_every_day(uint32_t first, uint32_t last, uint32_t start, uint32_t width, uint32_t weekday, uint8_t *list, size_t len);
 #endif

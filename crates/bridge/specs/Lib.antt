@@ -4,3 +4,4 @@ pub mod Bodies
 pub mod Elements
 pub mod Numbers
 pub mod Pieces
+pub mod Iso

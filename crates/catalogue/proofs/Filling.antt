@@ -5,7 +5,6 @@ use mathlib.Core.Bool.{Bool, true, false, cond}
 use mathlib.Core.List.{List, [], _∷_, _++_, append-assoc}
 use Prim.Native.Nat.{ℕ, suc, _+_, _-_, _≤_, _<_}
 use native.Mathlib.Decide.{decLe}
-use native.Mathlib.Numerals.{add-one}
 use native.Mathlib.Omega.{arith}
 use borrow.Author.Tests.{lt-ltb, le-ltb}
 use lib.Dec.{ltb}
@@ -14,53 +13,15 @@ use lib.Seq.{paste, length-paste, take-paste, drop-paste, drop-drop}
 use Rattle.days.specs.declared.NumberAnswer.{NumberAnswer}
 use Rattle.days.specs.Refusals.{outOfRange, listTooShort}
 use Rattle.days.specs.Days.{lastDay}
-use Rattle.entries.specs.Entries.{capacity, entryAt}
+use Rattle.entries.specs.Listed.{listedFrom}
+use Rattle.entries.proofs.Listed.{Due}
 use Rattle.text.specs.declared.Line.{Line}
-use Rattle.text.specs.Lines.{lineCapacity, emptyLine, contents, Holds}
-use Rattle.text.proofs.Holding.{holds-within}
-use Rattle.text.proofs.Lines.{bytes-kept}
+use Rattle.text.specs.Lines.{contents, Holds}
+use Rattle.text.proofs.Holding.{holds-within, holds-length}
 use Rattle.catalogue.specs.declared.Piece.{Piece}
 use Rattle.catalogue.specs.Catalogue.{dayLine}
-use Rattle.catalogue.specs.Pieces.{entryDays, listedFrom, dayLines, printedDays, withFront, thePiece, noPiece, putPiece, pieceOf, linesPiece, linesAfter}
+use Rattle.catalogue.specs.Pieces.{dayLines, printedDays, withFront, thePiece, noPiece, putPiece, pieceOf, linesPiece, linesAfter}
 use Rattle.catalogue.proofs.Pieces.{no-lines, fits, no-day, no-room, printed-none, printed-more, printed-end, piece-none, piece-no-day, piece-no-room, piece-put}
-
--- a line that holds bytes has their length, and its array that of every line
-pub holds-length : {l : Line} {bs : List ℕ} → Holds l bs → l .len ≡ length bs
-unfolding contents
-holds-length {l} {bs} h = omega (arith, holds-within h, ap length (h .whole), length-take (l .len) (l .bytes))
-
-pub holds-room : {l : Line} {bs : List ℕ} → Holds l bs → (length (l .bytes) ≡ lineCapacity) × (l .len ≤ lineCapacity)
-holds-room {l} {bs} h = let kept = bytes-kept bs emptyLine in rw (h .made) (kept .size, kept .within (omega arith))
-
--- the entry due, or none
-no-entry : (list : List ℕ) (k : ℕ) → capacity list ≤ k → listedFrom list k ≡ []
-unfolding entryDays
-no-entry list k h = let none : capacity list - k ≡ 0 = omega arith in rw none
-
-some-entry : (list : List ℕ) (k : ℕ) → k < capacity list → listedFrom list k ≡ entryAt list k .number ∷ listedFrom list (k + 1)
-unfolding entryDays
-some-entry list k h = let more : capacity list - k ≡ suc (capacity list - (k + 1)) = omega arith in rw more (rw add-one)
-
--- what an entry that was read says of the days due
-pub due-none : (list : List ℕ) (k : ℕ) (due : NumberAnswer) → due ≡ entryAt list k → (due .refusal ≡ 0 → ⊥) → listedFrom list k ≡ []
-unfolding entryAt
-due-none list k due e r = go (decLe (capacity list) k)
-  where
-    go : Dec (capacity list ≤ k) → listedFrom list k ≡ []
-    go (yes h) = no-entry list k h
-    go (no h) = absurd (r (ap (λ (a : NumberAnswer). a .refusal) e ∙ rw (lt-ltb k (capacity list) (omega arith))))
-
-pub record Due (list : List ℕ) (k : ℕ) (due : NumberAnswer) : Type 0 where
-  pub there : k < capacity list
-  pub listed : listedFrom list k ≡ due .number ∷ listedFrom list (k + 1)
-
-pub due-some : (list : List ℕ) (k : ℕ) (due : NumberAnswer) → due ≡ entryAt list k → due .refusal ≡ 0 → Due list k due
-unfolding entryAt
-due-some list k due e r = go (decLe (capacity list) k)
-  where
-    go : Dec (capacity list ≤ k) → Due list k due
-    go (no h) = record { there = omega arith; listed = rw e (some-entry list k (omega arith)) }
-    go (yes h) = let two : due .refusal ≡ outOfRange = ap (λ (a : NumberAnswer). a .refusal) e ∙ rw (le-ltb k (capacity list) h) in absurd (omega arith)
 
 -- bytes put behind those that were put are put with them
 join :

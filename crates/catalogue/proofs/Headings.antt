@@ -11,7 +11,7 @@ use Rattle.text.specs.Lines.{contents, Holds}
 use Rattle.catalogue.specs.Catalogue.{catalogueHeading}
 use Rattle.catalogue.specs.Pieces.{thePiece, noPiece, headingPiece, headingAfter}
 use Rattle.catalogue.proofs.Pieces.{heading-put, heading-refused}
-use Rattle.catalogue.proofs.Filling.{holds-length}
+use Rattle.text.proofs.Holding.{holds-length}
 
 module _ (ed found examined : ℕ) (before : List ℕ) (line : Line) (holds : Holds line (catalogueHeading ed found examined)) where
   pub line-refused :

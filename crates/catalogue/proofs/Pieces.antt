@@ -15,7 +15,8 @@ use Rattle.days.specs.Days.{lastDay}
 use Rattle.panchanga.specs.TrueLongitudes.{isEdition}
 use Rattle.catalogue.specs.declared.Piece.{Piece}
 use Rattle.catalogue.specs.Catalogue.{catalogueHeading, dayLine}
-use Rattle.catalogue.specs.Pieces.{listedFrom, dayLines, lineFits, printedDays, withFront, thePiece, noPiece, putPiece, pieceOf, linesPiece, linesAfter, headingPiece, headingAfter, ofEdition, leftInEdition}
+use Rattle.entries.specs.Listed.{listedFrom}
+use Rattle.catalogue.specs.Pieces.{dayLines, lineFits, printedDays, withFront, thePiece, noPiece, putPiece, pieceOf, linesPiece, linesAfter, headingPiece, headingAfter, ofEdition, leftInEdition}
 
 module _ (ed : ℕ) where
   abbrev lineLength : ℕ → ℕ

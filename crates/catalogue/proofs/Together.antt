@@ -9,16 +9,15 @@ use native.Mathlib.Decide.{decLe}
 use native.Mathlib.Omega.{arith}
 use lib.ListN.{length, take, drop, getD, length-append, drop-of-length-le}
 use lib.Seq.{take-append-seam, drop-length, drop-cons}
-use Rattle.days.specs.Days.{lastDay}
-use Rattle.days.specs.declared.NumberAnswer.{NumberAnswer}
-use Rattle.entries.specs.Entries.{entries, capacity, withEntries, entryAt}
-use Rattle.entries.proofs.Laws.{entries-length, entries-read}
+use Rattle.entries.specs.Entries.{capacity, entryAt}
+use Rattle.entries.specs.Listed.{entryDays, listedFrom, EachDay}
+use Rattle.entries.proofs.Listed.{no-days, more-days, days-length}
 use Rattle.panchanga.specs.TrueLongitudes.{isEdition}
 use Rattle.text.specs.Lines.{lineCapacity}
 use Rattle.catalogue.specs.declared.Piece.{Piece}
 use Rattle.catalogue.specs.Catalogue.{dayLine}
-use Rattle.catalogue.specs.Pieces.{entryDays, listedFrom, dayLines, lineFits, printedDays, thePiece, putPiece, pieceOf, linesPiece, linesAfter}
-use Rattle.catalogue.specs.Each.{EachDay, EachFits}
+use Rattle.catalogue.specs.Pieces.{dayLines, lineFits, printedDays, thePiece, putPiece, pieceOf, linesPiece, linesAfter}
+use Rattle.catalogue.specs.Each.{EachFits}
 use Rattle.catalogue.proofs.DayLines.{line-fits, line-some}
 use Rattle.catalogue.proofs.Pieces.{no-lines, fits, fitting, printed-none, printed-more, printed-end, piece-none, piece-some}
 
@@ -47,14 +46,6 @@ module _ (ed : ℕ) where
       let next : suc k + length ds ≡ k + suc (length ds) = omega arith in
       let left : n - length ds ≡ suc n - suc (length ds) = omega arith in
       ap (λ (l : List ℕ). entryAt list k .number ∷ l) (h ∙ ap₂ (λ (i m : ℕ). ds ++ entryDays list i m) next left)
-
-  no-days : (list : List ℕ) (k : ℕ) → entryDays list k 0 ≡ []
-  unfolding entryDays
-  no-days list k = refl
-
-  more-days : (list : List ℕ) (k n : ℕ) → entryDays list k (suc n) ≡ entryAt list k .number ∷ entryDays list (suc k) n
-  unfolding entryDays
-  more-days list k n = refl
 
   -- the days printed are the first of those due
   printed-first : (room : ℕ) (list : List ℕ) (k n : ℕ) → First list k n (printedDays ed room (entryDays list k n))
@@ -153,10 +144,6 @@ module _ (ed : ℕ) where
       later (yes h) some = omega arith
       later (no h) some = absurd (some (no-lines ed printed (omega arith)))
 
-  days-length : (list : List ℕ) (k n : ℕ) → length (entryDays list k n) ≡ n
-  days-length list k zero = ap length (no-days list k)
-  days-length list k (suc n) = ap length (more-days list k n) ∙ ap suc (days-length list (suc k) n)
-
   -- the bytes that n calls put one after another, the first from entry k on and each other from the entry that the one
   -- before it handed back; `buffers i` is the buffer of the call behind which i are left
   pub piecesFrom : List ℕ → (ℕ → List ℕ) → ℕ → ℕ → List ℕ
@@ -188,29 +175,3 @@ module _ (ed : ℕ) where
       fewer : Dec (1 ≤ piece .bytes) → capacity list - piece .next ≤ n
       fewer (yes h) = omega (arith, g .on (λ z. omega arith))
       fewer (no h) = omega (arith, g .forward, sym (days-length list k (capacity list - k)) ∙ ap length (g .done (omega arith)))
-
-  -- a list of days' entries and nothing else has these days
-  each-at : (ds : List ℕ) (k : ℕ) → EachDay ds → k < length ds → getD ds k 0 ≤ lastDay
-  unfolding EachDay
-  each-at [] k all h = absurd (omega arith)
-  each-at (d ∷ ds) zero all h = all .0
-  each-at (d ∷ ds) (suc k) all h = each-at ds k (all .1) (omega arith)
-
-  module _ (ds : List ℕ) (all : EachDay ds) where
-    entry-is : (k : ℕ) → k < length ds → entryAt (entries ds) k .number ≡ getD ds k 0
-    entry-is k h =
-        let whole : withEntries ds (entries ds) ≡ entries ds =
-        ap (λ (l : List ℕ). entries ds ++ l) (ap (λ (n : ℕ). drop n (entries ds)) (sym (entries-length ds)) ∙ drop-length (entries ds)) ∙ append-nil (entries ds) in
-        ap (λ (a : NumberAnswer). a .number)
-        (ap (λ (l : List ℕ). entryAt l k) (sym whole)
-        ∙ entries-read ds (entries ds) k (omega (arith, entries-length ds)) h (omega (arith, each-at ds k all h)))
-
-    days-are : (n k : ℕ) → k + n ≡ length ds → entryDays (entries ds) k n ≡ drop k ds
-    days-are zero k e = no-days (entries ds) k ∙ sym (drop-of-length-le ds {i = k} (omega arith))
-    days-are (suc n) k e =
-        more-days (entries ds) k n
-        ∙ ap₂ (λ (d : ℕ) (l : List ℕ). d ∷ l) (entry-is k (omega arith)) (days-are n (suc k) (omega arith))
-        ∙ sym (drop-cons ds k 0 (omega arith))
-
-    pub listed-entries : listedFrom (entries ds) 0 ≡ ds
-    listed-entries = days-are (capacity (entries ds) - 0) 0 (omega (arith, entries-length ds))

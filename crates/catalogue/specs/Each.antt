@@ -1,16 +1,10 @@
--- What the laws of pieces, and private contracts above this crate, ask of the days of a list.
+-- What the laws of pieces, and private contracts above this crate, ask of the lines of a list's days.
 -- Assumes nothing.
 use mathlib.Core.Path.{_≡_}
 use mathlib.Core.Bool.{true}
 use mathlib.Core.List.{List, [], _∷_}
-use Prim.Native.Nat.{ℕ, _≤_}
-use Rattle.days.specs.Days.{lastDay}
+use Prim.Native.Nat.{ℕ}
 use Rattle.catalogue.specs.Pieces.{lineFits}
-
--- each number is a day
-unfoldable pub EachDay : List ℕ → Type 0
-EachDay [] = Unit {0}
-EachDay (d ∷ ds) = (d ≤ lastDay) × EachDay ds
 
 -- each number is a day whose line fits whole into so many bytes
 unfoldable pub EachFits : ℕ → ℕ → List ℕ → Type 0

@@ -8,19 +8,10 @@ use lib.Dec.{leb}
 use lib.ListN.{length, drop}
 use Rattle.days.specs.Days.{lastDay}
 use Rattle.days.specs.Refusals.{accepted, outOfRange, listTooShort, badEdition}
-use Rattle.entries.specs.Entries.{capacity, entryAt}
+use Rattle.entries.specs.Listed.{listedFrom}
 use Rattle.panchanga.specs.TrueLongitudes.{isEdition}
 use Rattle.catalogue.specs.declared.Piece.{Piece}
 use Rattle.catalogue.specs.Catalogue.{catalogueHeading, dayLine}
-
--- the days of n entries of a list, from entry k on
-unfoldable pub entryDays : List ℕ → ℕ → ℕ → List ℕ
-entryDays list k zero = []
-entryDays list k (suc n) = entryAt list k .number ∷ entryDays list (suc k) n
-
--- the days of a list's entries from entry k on
-abbrev pub listedFrom : List ℕ → ℕ → List ℕ
-listedFrom list k = entryDays list k (capacity list - k)
 
 -- the lines of days in an edition, one after another
 unfoldable pub dayLines : ℕ → List ℕ → List ℕ

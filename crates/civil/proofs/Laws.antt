@@ -38,32 +38,44 @@ pub julian-day : (n : ℕ) → n ≤ lastDay → julianDayOf (pairAt n) ≡ theN
 julian-day n h = given _ (pairAt n) (pair-in-range n h) ∙ ap theNumber (omega (arith, date-counts n .counted, count-pair n))
 
 -- two days have two dates
-one-day : (m n : ℕ) → dateOn m ≡ dateOn n → m ≡ n
+pub one-day : (m n : ℕ) → dateOn m ≡ dateOn n → m ≡ n
 one-day m n e = omega (arith, date-counts m .counted, date-counts n .counted, ap serialOf e)
 
-found : (k n j : ℕ) → j < k → dayFrom k n (dateOn n) (dateOn (n + j)) ≡ theNumber (n + j)
-unfolding dayFrom dateOn
-found zero n j h = absurd (omega arith)
-found (suc k) n zero h =
-    let e : n + 0 ≡ n = omega arith in
-    rw (e, same-self (dateOn n))
-found (suc k) n (suc j) h = go (sameDate (dateOn n) (dateOn (n + suc j))) refl (found k (suc n) j (omega arith))
+-- the search from date to date, in any calendar that gives two days two dates: it finds the day that has the date, and
+-- else none
+module _
+    (follow : Date → Date)
+    (on : ℕ → Date)
+    (step : (n : ℕ) → on (suc n) ≡ follow (on n))
+    (one : (m n : ℕ) → on m ≡ on n → m ≡ n)
   where
-    e : suc n + j ≡ n + suc j
-    e = omega arith
+    pub found : (k n j : ℕ) → j < k → dayFrom follow k n (on n) (on (n + j)) ≡ theNumber (n + j)
+    unfolding dayFrom
+    found zero n j h = absurd (omega arith)
+    found (suc k) n zero h =
+        let e : n + 0 ≡ n = omega arith in
+        rw (e, same-self (on n))
+    found (suc k) n (suc j) h = go (sameDate (on n) (on (n + suc j))) refl (rw (e, step n) at (found k (suc n) j (omega arith)))
+      where
+        e : suc n + j ≡ n + suc j
+        e = omega arith
 
-    go : (t : Bool) → sameDate (dateOn n) (dateOn (n + suc j)) ≡ t → dayFrom k (suc n) (dateOn (suc n)) (dateOn (suc n + j)) ≡ theNumber (suc n + j) → cond t (theNumber n) (dayFrom k (suc n) (next (dateOn n)) (dateOn (n + suc j))) ≡ theNumber (n + suc j)
-    go true s r = absurd (omega (arith, one-day n (n + suc j) (same-true (dateOn n) (dateOn (n + suc j)) s)))
-    go false s r = rw e at r
+        go : (t : Bool) → sameDate (on n) (on (n + suc j)) ≡ t → dayFrom follow k (suc n) (follow (on n)) (on (n + suc j)) ≡ theNumber (n + suc j) → cond t (theNumber n) (dayFrom follow k (suc n) (follow (on n)) (on (n + suc j))) ≡ theNumber (n + suc j)
+        go true s r = absurd (omega (arith, one n (n + suc j) (same-true (on n) (on (n + suc j)) s)))
+        go false s r = r
 
-absent : (k n : ℕ) (x : Date) → ((m : ℕ) → m < n + k → dateOn m ≡ x → ⊥) → dayFrom k n (dateOn n) x ≡ noNumber outOfRange
-unfolding dayFrom dateOn
-absent zero n x h = refl
-absent (suc k) n x h = go (sameDate (dateOn n) x) refl (absent k (suc n) x (λ m l. h m (omega arith)))
-  where
-    go : (t : Bool) → sameDate (dateOn n) x ≡ t → dayFrom k (suc n) (dateOn (suc n)) x ≡ noNumber outOfRange → cond t (theNumber n) (dayFrom k (suc n) (next (dateOn n)) x) ≡ noNumber outOfRange
-    go true s r = absurd (h n (omega arith) (same-true (dateOn n) x s))
-    go false s r = r
+    pub absent : (k n : ℕ) (x : Date) → ((m : ℕ) → m < n + k → on m ≡ x → ⊥) → dayFrom follow k n (on n) x ≡ noNumber outOfRange
+    unfolding dayFrom
+    absent zero n x h = refl
+    absent (suc k) n x h = go (sameDate (on n) x) refl (rw (step n) at (absent k (suc n) x (λ m l. h m (omega arith))))
+      where
+        go : (t : Bool) → sameDate (on n) x ≡ t → dayFrom follow k (suc n) (follow (on n)) x ≡ noNumber outOfRange → cond t (theNumber n) (dayFrom follow k (suc n) (follow (on n)) x) ≡ noNumber outOfRange
+        go true s r = absurd (h n (omega arith) (same-true (on n) x s))
+        go false s r = r
+
+next-date : (n : ℕ) → dateOn (suc n) ≡ next (dateOn n)
+unfolding dateOn
+next-date n = refl
 
 -- what the day of a date is: each answer exactly where it is due
 pub data Answered (x : Date) : NumberAnswer → Type 0 where
@@ -84,9 +96,9 @@ unfolding dayOfDate dateOn
 answer x _ (no-such e) = rw e
 answer x _ (day n h e) =
     let z : 0 + n ≡ n = omega arith in
-    let f = rw z at (found (suc lastDay) 0 n (omega arith)) in
+    let f = rw z at (found next dateOn next-date one-day (suc lastDay) 0 n (omega arith)) in
     rw (← e, date-exists n) f
-answer x _ (outside e h) = rw e (absent (suc lastDay) 0 x (λ m l. h m (omega arith)))
+answer x _ (outside e h) = rw e (absent next dateOn next-date one-day (suc lastDay) 0 x (λ m l. h m (omega arith)))
 
 answered-count : (x : Date) → Answered x (counted x)
 unfolding counted

@@ -21,7 +21,7 @@ serial-is x = refl
 
 module _ (x : Date) (r : Real x) where
   -- the serial number tells the calendar
-  tells-calendar : calendar x ≡ leb gregorianSerial (serialOf x)
+  pub tells-calendar : calendar x ≡ leb gregorianSerial (serialOf x)
   unfolding serialOf
   tells-calendar = go (calendar x) refl
     where

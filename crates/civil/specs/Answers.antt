@@ -10,14 +10,15 @@ use Rattle.civil.specs.declared.Date.{Date}
 use Rattle.civil.specs.declared.DateAnswer.{DateAnswer}
 use Rattle.civil.specs.Calendar.{dateExists, sameDate, next, epoch, dateOn}
 
--- the day whose date is x, sought date by date over k days: from day n on, whose date is z
-unfoldable pub dayFrom : ℕ → ℕ → Date → Date → NumberAnswer
-dayFrom zero n z x = noNumber outOfRange
-dayFrom (suc k) n z x = cond (sameDate z x) (theNumber n) (dayFrom k (suc n) (next z) x)
+-- the day whose date is x, sought date by date over k days, by the rule that gives the date after a date: from day n
+-- on, whose date is z
+unfoldable pub dayFrom : (Date → Date) → ℕ → ℕ → Date → Date → NumberAnswer
+dayFrom follow zero n z x = noNumber outOfRange
+dayFrom follow (suc k) n z x = cond (sameDate z x) (theNumber n) (dayFrom follow k (suc n) (follow z) x)
 
 -- sought over all days from day 0 on
 unfoldable pub dayOfDate : Date → NumberAnswer
-dayOfDate x = cond (dateExists x) (dayFrom (suc lastDay) 0 epoch x) (noNumber noSuchDate)
+dayOfDate x = cond (dateExists x) (dayFrom next (suc lastDay) 0 epoch x) (noNumber noSuchDate)
 
 -- an answer that is a date
 abbrev pub theDate : Date → DateAnswer

@@ -34,6 +34,10 @@ noExtraMonth = 8
 abbrev pub badEdition : ℕ
 badEdition = 14
 
+-- of a list of lines: one that is of another form
+abbrev pub badLine : ℕ
+badLine = 15
+
 -- a body's number above 8
 abbrev pub noSuchBody : ℕ
 noSuchBody = 16

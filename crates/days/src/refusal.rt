@@ -19,4 +19,6 @@ pub const NO_EXTRA_MONTH: u32 = 8;
 
 pub const BAD_EDITION: u32 = 14;
 
+pub const BAD_LINE: u32 = 15;
+
 pub const NO_SUCH_BODY: u32 = 16;

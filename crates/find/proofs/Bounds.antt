@@ -19,7 +19,7 @@ use Rattle.entries.proofs.Filter.{filtered-short}
 use Rattle.text.specs.Lines.{lineCapacity}
 use Rattle.catalogue.specs.Catalogue.{dayLine}
 use Rattle.catalogue.specs.Pieces.{dayLines}
-use Rattle.catalogue.specs.Each.{EachDay}
+use Rattle.entries.specs.Listed.{EachDay}
 use Rattle.catalogue.proofs.DayLines.{line-fits, heading-fits}
 use Rattle.find.specs.Output.{headingOf, outputOf}
 

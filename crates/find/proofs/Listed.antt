@@ -17,11 +17,12 @@ use Rattle.search.specs.declared.Found.{Found}
 use Rattle.search.specs.Days.{matchingDays, visitedDays}
 use Rattle.search.specs.Search.{resultOf, listAfter, Searched}
 use Rattle.entries.specs.Entries.{entries, capacity, withEntries}
+use Rattle.entries.specs.Listed.{listedFrom}
 use Rattle.entries.proofs.Laws.{entries-length}
+use Rattle.entries.proofs.Listed.{listed-entries}
 use Rattle.text.specs.Lines.{lineCapacity}
-use Rattle.catalogue.specs.Pieces.{listedFrom}
 use Rattle.catalogue.specs.Each.{EachFits}
-use Rattle.catalogue.proofs.Together.{each-fits, listed-entries}
+use Rattle.catalogue.proofs.Together.{each-fits}
 use Rattle.find.specs.Output.{front, frontDays}
 use Rattle.find.proofs.Bounds.{each-day}
 
@@ -56,7 +57,7 @@ module _ (q : Query) (e : refusalOf q ≡ 0) (list : List ℕ) (found : Found) (
     there = omega (arith, count, ap length front-is, entries-length (matchingDays q))
 
     pub listed : frontDays after (found .length) ≡ matchingDays q
-    listed = ap (λ (l : List ℕ). listedFrom l 0) front-is ∙ listed-entries (q .edition) (matchingDays q) (each-day q e)
+    listed = ap (λ (l : List ℕ). listedFrom l 0) front-is ∙ listed-entries (matchingDays q) (each-day q e)
 
     pub each : (room : ℕ) → lineCapacity ≤ room → EachFits (q .edition) room (frontDays after (found .length))
     each room h = rw listed (each-fits (q .edition) (accepted-by q e .edition) room (matchingDays q) h (each-day q e))

@@ -10,7 +10,8 @@ use Rattle.query.specs.declared.Query.{Query}
 use Rattle.query.specs.Query.{refusalOf}
 use Rattle.catalogue.specs.declared.Piece.{Piece}
 use Rattle.panchanga.specs.TrueLongitudes.{isEdition}
-use Rattle.catalogue.specs.Pieces.{listedFrom, dayLines, linesPiece, linesAfter, ofEdition, leftInEdition}
+use Rattle.entries.specs.Listed.{listedFrom}
+use Rattle.catalogue.specs.Pieces.{dayLines, linesPiece, linesAfter, ofEdition, leftInEdition}
 use Rattle.catalogue.proofs.Pieces.{piece-given, buffer-given}
 use Rattle.catalogue.specs.Each.{EachFits}
 use Rattle.catalogue.proofs.Together.{Going, going}

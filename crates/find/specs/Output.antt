@@ -7,7 +7,8 @@ use lib.ListN.{length, take, drop}
 use Rattle.query.specs.declared.Query.{Query}
 use Rattle.search.specs.Days.{matchingDays, visitedDays}
 use Rattle.catalogue.specs.Catalogue.{catalogueHeading}
-use Rattle.catalogue.specs.Pieces.{listedFrom, dayLines}
+use Rattle.entries.specs.Listed.{listedFrom}
+use Rattle.catalogue.specs.Pieces.{dayLines}
 use Rattle.catalogue.specs.Each.{EachFits}
 
 -- the heading for a query, in its edition, with the number of matching days and of days looked at

@@ -13,11 +13,11 @@ use Rattle.text.proofs.Printing.{digits-length}
 use Rattle.messages.specs.Messages.{refusalText, faultText, faultLine}
 
 -- the longer of two texts that one is picked from
-picked : (b : Bool) (one other : List ℕ) (most : ℕ) → length one ≤ most → length other ≤ most → length (cond b one other) ≤ most
+pub picked : (b : Bool) (one other : List ℕ) (most : ℕ) → length one ≤ most → length other ≤ most → length (cond b one other) ≤ most
 picked true one other most h k = h
 picked false one other most h k = k
 
-refusal-short : (refusal : ℕ) → length (refusalText refusal) ≤ 53
+pub refusal-short : (refusal : ℕ) → length (refusalText refusal) ≤ 53
 unfolding refusalText
 refusal-short refusal =
     picked (eqb refusal noSuchDate) _ _ 53 (omega arith)

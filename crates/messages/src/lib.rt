@@ -5,7 +5,8 @@ ghost use mathlib.Core.Path.{_≡_};
 ghost use Rattle.text.specs.Lines.{withBytes, Holds};
 ghost use Rattle.messages.specs.Messages.{refusalText, faultText, faultLine, unreadablePage};
 
-fn with_refusal(line: Line, refusal: u32) -> Line
+// What a refusal says, put behind a line.
+pub fn with_refusal(line: Line, refusal: u32) -> Line
     ensures { λ r. ⌜ r ≡ withBytes line (refusalText refusal) ⌝ }
 {
     match refusal {

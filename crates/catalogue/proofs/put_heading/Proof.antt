@@ -1,6 +1,6 @@
 -- `put_heading` meets its contract: its line is put at the front where it fits. Assumes nothing.
 use native.Mathlib.Omega.{arith}
-use Rattle.catalogue.proofs.Filling.{holds-room}
+use Rattle.text.proofs.Holding.{holds-room}
 use Rattle.catalogue.proofs.Headings.{line-refused, line-put}
 use borrow.Author.Needs.{needs}
 use Rattle.catalogue.proofs.put_heading.Statement.{statement}

@@ -3,7 +3,9 @@
 use Prim.Native.Nat.{_-_}
 use native.Mathlib.Omega.{arith}
 use Rattle.entries.specs.Entries.{capacity}
-use Rattle.catalogue.proofs.Filling.{holds-room, due-none, due-some, Filling, filling-start, filling-step, ended-list, ended-no-day, ended-no-room}
+use Rattle.entries.proofs.Listed.{due-none, due-some}
+use Rattle.text.proofs.Holding.{holds-room}
+use Rattle.catalogue.proofs.Filling.{Filling, filling-start, filling-step, ended-list, ended-no-day, ended-no-room}
 use borrow.Author.Needs.{needs}
 use Rattle.catalogue.proofs.put_lines.Statement.{statement}
 use Rattle.catalogue.proofs.put_lines.Tie as tie

@@ -6,7 +6,8 @@ use native.Mathlib.Omega.{arith}
 use lib.ListN.{length}
 use Rattle.panchanga.specs.TrueLongitudes.{isEdition}
 use Rattle.query.proofs.Accepted.{accepted-by}
-use Rattle.catalogue.specs.Pieces.{listedFrom, dayLines}
+use Rattle.entries.specs.Listed.{listedFrom}
+use Rattle.catalogue.specs.Pieces.{dayLines}
 use Rattle.find.proofs.Printing.{Printing, printing-start, step, next-piece, printed, countable, fewer, printing-step}
 use borrow.Author.Needs.{needs}
 use Rattle.find.proofs.print_days.Statement.{statement}

@@ -1,0 +1,6 @@
+mod Splitting
+pub mod Reading
+mod Measuring
+mod Putting
+mod Lines
+pub mod Laws

@@ -1,0 +1,3 @@
+mod Later
+pub mod Laws
+pub mod Worked
