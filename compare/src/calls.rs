@@ -1,7 +1,8 @@
 //! The calls of the two static archives: `host`, the museum's C calls, and `bridge`, a test library
 //! that reaches the search, the look and the reasons with every condition and edition, the text that
 //! `find` prints, a day's elements in an edition, a mean place with its left-over and divisor, the star
-//! planets together, and rows of records. A number of a refused call is 0, but with 7.
+//! planets together, rows of records, and the dates that libraries write. A number of a refused call is
+//! 0, but with 7.
 
 use crate::reference::records::Record;
 
@@ -123,6 +124,37 @@ unsafe extern "C" {
         -> u32;
     pub fn bridge_length(query: *const u8, query_len: usize) -> u32;
     pub fn bridge_looked(query: *const u8, query_len: usize) -> u32;
+
+    /// Dates as libraries write them. The lower half of a number is the day, or year × 10000 + month ×
+    /// 100 + day; the upper half is the refusal.
+    pub safe fn bridge_iso_day(year: u32, month: u32, day: u32) -> u64;
+    pub safe fn bridge_iso_date(day: u32) -> u64;
+    /// Text and list are lent for the call. The lower half is the number of entries read or of bytes
+    /// written, with 7 what would do; the upper half is the refusal.
+    pub fn bridge_dates_to_list(
+        text: *const u8,
+        text_len: usize,
+        list: *mut u8,
+        list_len: usize,
+    ) -> u64;
+    pub fn bridge_days_to_list(
+        text: *const u8,
+        text_len: usize,
+        list: *mut u8,
+        list_len: usize,
+    ) -> u64;
+    pub fn bridge_list_to_dates(
+        list: *const u8,
+        list_len: usize,
+        text: *mut u8,
+        text_len: usize,
+    ) -> u64;
+    pub fn bridge_list_to_days(
+        list: *const u8,
+        list_len: usize,
+        text: *mut u8,
+        text_len: usize,
+    ) -> u64;
 
     /// A body above 8 is refused with 16, on numbers that are no days too.
     pub safe fn bridge_longitude_result(body: u32, day: u32) -> u32;

@@ -34,6 +34,9 @@ fn main() {
     });
     checks.part("pairs and steps", runs::pairs::run);
     checks.part("civil dates", |checks| runs::civil::run(checks, &almanac));
+    checks.part("dates as libraries write them", |checks| {
+        runs::iso::run(checks, &almanac)
+    });
     checks.part("Saka dates", runs::saka::run);
     checks.part("host searches", |checks| {
         runs::host_search::run(checks, &almanac)

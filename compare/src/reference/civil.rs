@@ -1,5 +1,6 @@
 //! Paper 01, "Days, cycles and weekdays": civil dates, "Julian up to 4 October 1582 and Gregorian
-//! from 15 October 1582". Days are found by walking from date to date, with no running sums.
+//! from 15 October 1582". Days are found by walking from date to date, with no running sums; so are
+//! those of the dates that libraries write (`iso`), which have the months and the step of these.
 
 #[derive(Clone, Copy, PartialEq, Eq, Hash, Debug)]
 pub struct Date {
@@ -9,19 +10,26 @@ pub struct Date {
 }
 
 /// "Leap years are those divisible by 4, without the Gregorian centuries not divisible by 400."
-/// The February of 1582 was still Julian, that of 1583 Gregorian.
-fn leap(year: u32) -> bool {
-    let gregorian = year >= 1583;
-    let left_out = gregorian && year % 100 == 0 && year % 400 != 0;
+pub fn gregorian_leap(year: u32) -> bool {
+    let left_out = year % 100 == 0 && year % 400 != 0;
     year % 4 == 0 && !left_out
 }
 
+/// The February of 1582 was still Julian, that of 1583 Gregorian.
+fn leap(year: u32) -> bool {
+    if year >= 1583 {
+        gregorian_leap(year)
+    } else {
+        year % 4 == 0
+    }
+}
+
 /// The number of a month's last day; 0 where there is no such month.
-fn last_of_month(year: u32, month: u32) -> u32 {
+pub fn last_of_month(leap: bool, month: u32) -> u32 {
     match month {
         1 | 3 | 5 | 7 | 8 | 10 | 12 => 31,
         4 | 6 | 9 | 11 => 30,
-        2 if leap(year) => 29,
+        2 if leap => 29,
         2 => 28,
         _ => 0,
     }
@@ -49,14 +57,22 @@ impl Date {
     /// "Refusals by number", 1: "no such civil date, 5 to 14 October 1582 included".
     pub fn exists(self) -> bool {
         let lost = self.year == 1582 && self.month == 10 && self.day >= 5 && self.day <= 14;
-        self.day >= 1 && self.day <= last_of_month(self.year, self.month) && !lost
+        self.day >= 1 && self.day <= last_of_month(leap(self.year), self.month) && !lost
     }
 
     /// The date after one that exists.
     pub fn next(self) -> Date {
         if self == Date::LAST_JULIAN {
             Date::FIRST_GREGORIAN
-        } else if self.day < last_of_month(self.year, self.month) {
+        } else {
+            self.stepped(leap(self.year))
+        }
+    }
+
+    /// The date after one that exists, in a year that is a leap year or isn't, and of which no days are
+    /// lost.
+    pub fn stepped(self, leap: bool) -> Date {
+        if self.day < last_of_month(leap, self.month) {
             Date {
                 day: self.day + 1,
                 ..self

@@ -1,10 +1,11 @@
-//! The rules of paper 01, and of paper 02's L1 to L5, L8, L9, L10, L12 and L13, each written a second time and by
-//! another method than the proved crates: exact fractions with one floor, dates by walking the calendar day by day,
-//! searches, entries into signs and drifts that test every day of their span, reasons from a list of all conditions,
-//! and floats made of whole numbers. Each function cites the paper's heading that it follows; the page of `find` and
-//! what it prints, which the papers leave open, are described in `page` and `catalogue`, what `engraving` prints in
-//! `plate`, what `month` prints in `month`, what `why` reads and prints in `why`, and what `signs` and `drift` read in
-//! `span`, and print in `signs` and `drift`.
+//! The rules of paper 01, and of paper 02's L1 to L5 and L8 to L13, each written a second time and by
+//! another method than the proved crates: exact fractions with one floor, dates by walking the calendar
+//! day by day, searches, entries into signs and drifts that test every day of their span, reasons from a
+//! list of all conditions, and floats made of whole numbers. Each function cites the paper's heading
+//! that it follows; the page of `find` and what it prints, which the papers leave open, are described in
+//! `page` and `catalogue`, what `engraving` prints in `plate`, what `month` prints in `month`, what `why`
+//! reads and prints in `why`, and what `signs` and `drift` read in `span`, and print in `signs` and
+//! `drift`.
 
 pub mod almanac;
 pub mod arms;
@@ -15,6 +16,7 @@ pub mod drift;
 pub mod edition;
 pub mod exact;
 pub mod float;
+pub mod iso;
 pub mod list;
 pub mod longitudes;
 pub mod month;

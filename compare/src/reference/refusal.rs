@@ -11,6 +11,8 @@ pub const LIST_TOO_SHORT: u32 = 7;
 pub const NO_EXTRA_MONTH: u32 = 8;
 /// L8.
 pub const NO_SUCH_EDITION: u32 = 14;
+/// L11.
+pub const OTHER_FORM: u32 = 15;
 /// L13.
 pub const NO_SUCH_BODY: u32 = 16;
 

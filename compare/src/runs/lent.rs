@@ -31,6 +31,13 @@ impl Lent {
         }
     }
 
+    /// Just these bytes, with the pattern on both sides.
+    pub fn holding(bytes: &[u8]) -> Lent {
+        let mut lent = Lent::new(bytes.len());
+        lent.bytes_mut().copy_from_slice(bytes);
+        lent
+    }
+
     /// The bytes that are lent.
     pub fn bytes(&self) -> &[u8] {
         &self.memory[self.lent.clone()]

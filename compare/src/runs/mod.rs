@@ -11,6 +11,8 @@ pub mod engraving;
 pub mod find;
 pub mod general_search;
 pub mod host_search;
+pub mod iso;
+pub mod iso_text;
 pub mod kept;
 pub mod lent;
 pub mod lines;
