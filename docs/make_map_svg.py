@@ -15,9 +15,9 @@ ROOT = pathlib.Path(__file__).resolve().parent.parent
 PICTURE = ROOT / "docs/map.svg"
 
 UNDER_ALL = "days integers entries text words input output".split()
-READS = "values page question span_line".split()
-RECKONS = "civil saka longitudes panchanga planets older_motions arms records query search reasons zodiac".split()
-PRINTS = "dated sheet month_sheet plate messages drift_sheet catalogue explanation sign_sheet reply".split()
+READS = "values page question span_line date_lines".split()
+RECKONS = "civil iso saka longitudes panchanga planets older_motions arms records query search reasons zodiac".split()
+PRINTS = "dated sheet month_sheet plate messages drift_sheet catalogue explanation sign_sheet reply conversion".split()
 # Who, what is asked and answered, and the programs: for the operator calls from C, so numbers and no text.
 LANES = [
     ("the reader", "which days, and why not that one", "find why"),
@@ -26,6 +26,7 @@ LANES = [
     ("calendar printers", "when the Sun enters a sign", "signs"),
     ("engravers", "a plate with thirds", "engraving"),
     ("the scholar", "how far from older books", "drift"),
+    ("libraries", "ISO dates to days and back", "dates_to_days days_to_dates"),
 ]
 HELD = ("for comparison", "these hold the rest to the papers", "bridge worked scan_days *_cases")
 WIDE, LEFT, GAP, CHIP, LINE = 1150, 204, 14, 22, 28
@@ -41,12 +42,13 @@ def crates():
 
 
 def calls(names):
-    """The crates that each crate's code names, but for what it names in ghost imports and comments."""
+    """The crates that each crate's code names, but for what it names in ghost imports and comments, and for
+    constants."""
     found = {}
     for name in names:
         code = "\n".join(path.read_text(encoding="utf-8") for path in sorted((ROOT / "crates" / name / "src").rglob("*.rt")))
         code = re.sub(r"^ghost use .*$|//.*$|(?:requires|ensures) \{.*$", "", code, flags=re.M)
-        found[name] = {other for other in re.findall(r"\b(\w+)::", code) if other in names} - {name}
+        found[name] = {other for other in re.findall(r"\b(\w+)::(?=\w*[a-z])", code) if other in names} - {name}
     return found
 
 
