@@ -1,1 +1,2 @@
 mod Truth
+mod Iso

@@ -11,7 +11,7 @@ ghost use Rattle.date_lines.specs.Texts.{listAnswer, listAfter, textAnswer, tex
 ghost use Rattle.bridge.specs.Iso.{inOne, dayInOne, dateInOne, lengthInOne};
 
 fn in_one(refusal: u32, number: u64) -> u64
-    requires { ⌜ number < 281474976710656 ⌝ }
+    requires { ⌜ number < 4294967296 ⌝ }
     ensures { λ r. ⌜ r ≡ inOne refusal number ⌝ }
 {
     4294967296 * refusal as u64 + number
@@ -47,7 +47,8 @@ pub extern "C" fn bridge_dates_to_list(text: &[u8], list: &mut [u8]) -> u64
     ensures { λ r. ⌜ r ≡ lengthInOne (listAnswer Kind.Dates (length (now (text .entry))) (now (text .entry)) (now (list .entry))) ⌝ }
     ensures { λ _. ⌜ now (list .exit) ≡ listAfter Kind.Dates (length (now (text .entry))) (now (text .entry)) (now (list .entry)) ⌝ }
 {
-    length_in_one(date_lines::dates_to_list(text, list))
+    let most = text.len();
+    length_in_one(date_lines::lines_to_list(Kind::Dates, text, most, list))
 }
 
 #[no_mangle]
@@ -55,7 +56,8 @@ pub extern "C" fn bridge_days_to_list(text: &[u8], list: &mut [u8]) -> u64
     ensures { λ r. ⌜ r ≡ lengthInOne (listAnswer Kind.Days (length (now (text .entry))) (now (text .entry)) (now (list .entry))) ⌝ }
     ensures { λ _. ⌜ now (list .exit) ≡ listAfter Kind.Days (length (now (text .entry))) (now (text .entry)) (now (list .entry)) ⌝ }
 {
-    length_in_one(date_lines::days_to_list(text, list))
+    let most = text.len();
+    length_in_one(date_lines::lines_to_list(Kind::Days, text, most, list))
 }
 
 #[no_mangle]

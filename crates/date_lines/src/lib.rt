@@ -172,7 +172,7 @@ fn put_days(kind: Kind, text: &[u8], list: &mut [u8])
     }
 }
 
-// The days of a text's lines to a list, where the text has so many lines at most.
+// The days of a text's lines to a list, where the text has so many lines at most. No text has more lines than bytes.
 pub fn lines_to_list(kind: Kind, text: &[u8], most: usize, list: &mut [u8]) -> Converted
     ensures { λ r. ⌜ r ≡ listAnswer kind most (now (text .entry)) (now (list .entry)) ⌝ }
     ensures { λ _. ⌜ now (list .exit) ≡ listAfter kind most (now (text .entry)) (now (list .entry)) ⌝ }
@@ -186,22 +186,6 @@ pub fn lines_to_list(kind: Kind, text: &[u8], most: usize, list: &mut [u8]) -> C
     }
     put_days(kind, text, list);
     all
-}
-
-// Dates to a list. A text has no more lines than bytes, so all its lines are read.
-pub fn dates_to_list(text: &[u8], list: &mut [u8]) -> Converted
-    ensures { λ r. ⌜ r ≡ listAnswer Kind.Dates (length (now (text .entry))) (now (text .entry)) (now (list .entry)) ⌝ }
-    ensures { λ _. ⌜ now (list .exit) ≡ listAfter Kind.Dates (length (now (text .entry))) (now (text .entry)) (now (list .entry)) ⌝ }
-{
-    lines_to_list(Kind::Dates, text, text.len(), list)
-}
-
-// Days to a list.
-pub fn days_to_list(text: &[u8], list: &mut [u8]) -> Converted
-    ensures { λ r. ⌜ r ≡ listAnswer Kind.Days (length (now (text .entry))) (now (text .entry)) (now (list .entry)) ⌝ }
-    ensures { λ _. ⌜ now (list .exit) ≡ listAfter Kind.Days (length (now (text .entry))) (now (text .entry)) (now (list .entry)) ⌝ }
-{
-    lines_to_list(Kind::Days, text, text.len(), list)
 }
 
 fn digit(n: u32) -> u8
