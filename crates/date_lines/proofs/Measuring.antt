@@ -3,7 +3,7 @@
 use mathlib.Core.Bool.{Bool, true, false, cond, _&&_}
 use mathlib.Core.Path.{_≡_, refl, ap, sym, _∙_}
 use mathlib.Core.List.{List, [], _∷_}
-use Prim.Native.Nat.{ℕ, _+_, _-_, _≤_, _<_, min}
+use Prim.Native.Nat.{ℕ, _+_, _*_, _-_, _≤_, _<_, min}
 use native.Mathlib.Decide.{decLe}
 use native.Mathlib.Omega.{arith}
 use lib.Dec.{leb}
@@ -14,12 +14,14 @@ use Rattle.days.specs.Refusals.{outOfRange}
 use Rattle.days.specs.Days.{lastDay}
 use Rattle.entries.specs.Entries.{capacity, entryAt}
 use Rattle.entries.specs.Listed.{listedFrom, EachDay}
-use Rattle.entries.proofs.Listed.{no-entry, some-entry}
+use Rattle.entries.proofs.Listed.{no-entry, some-entry, days-length}
 use Rattle.date_lines.specs.declared.Kind.{Kind}
+use Rattle.date_lines.specs.declared.Kind.the-variants.{Dates}
 use Rattle.date_lines.specs.declared.Room.{Room}
 use Rattle.date_lines.specs.declared.Converted.{Converted}
 use Rattle.date_lines.specs.Lines.{lineOf}
-use Rattle.date_lines.specs.Texts.{converted, refusedLine, tooShort, allDays, textOf, longest, daysAnswer}
+use Rattle.date_lines.specs.Texts.{converted, refusedLine, tooShort, allDays, textOf, longest, fitAnswer, daysAnswer}
+use Rattle.date_lines.proofs.Lines.{date-length}
 
 pub text-length : (kind : Kind) (d : ℕ) (ds : List ℕ) → length (textOf kind (d ∷ ds)) ≡ length (lineOf kind d) + length (textOf kind ds)
 unfolding textOf
@@ -45,6 +47,23 @@ not-all d ds h = rw (lt-leb d lastDay h)
 pub next-listed : (list : List ℕ) (k : ℕ) (due : NumberAnswer) → k < capacity list → due ≡ entryAt list k → listedFrom list k ≡ due .number ∷ listedFrom list (k + 1)
 next-listed list k due h e = rw e (some-entry list k h)
 
+-- whether each entry is a day, entry by entry
+pub record Checked (list : List ℕ) (index : ℕ) : Type 0 where
+  pub few : index ≤ capacity list
+  pub days : allDays (listedFrom list 0) ≡ allDays (listedFrom list index)
+
+module _ (list : List ℕ) (index : ℕ) (m : Checked list index) where
+  module _ (due : NumberAnswer) (h : index < capacity list) (e : due ≡ entryAt list index) where
+    pub checked-bad : lastDay < due .number → false ≡ allDays (listedFrom list 0)
+    checked-bad k = sym (m .days ∙ ap allDays (next-listed list index due h e) ∙ not-all (due .number) (listedFrom list (index + 1)) k)
+
+    pub checked-more : due .number ≤ lastDay → Checked list (index + 1)
+    checked-more k =
+        record { few = omega arith; days = m .days ∙ ap allDays (next-listed list index due h e) ∙ all-more (due .number) (listedFrom list (index + 1)) k }
+
+  pub checked-end : capacity list ≤ index → true ≡ allDays (listedFrom list 0)
+  checked-end h = sym (m .days ∙ ap allDays (no-entry list index h) ∙ none-all)
+
 module _ (kind : Kind) (list : List ℕ) (bytes : ℕ) where
   -- the bytes of the lines from an entry on, and of those before it
   abbrev ahead : ℕ → ℕ
@@ -55,13 +74,12 @@ module _ (kind : Kind) (list : List ℕ) (bytes : ℕ) where
 
   pub record Measured (room : Room) (index : ℕ) : Type 0 where
     pub few : index ≤ capacity list
-    pub days : allDays (listedFrom list 0) ≡ allDays (listedFrom list index)
     pub less : ahead index ≤ ahead 0
     pub left : room .left ≡ bytes - behind index
     pub more : room .more ≡ min (behind index - bytes) longest
 
   pub measured-none : (room : Room) → room .left ≡ bytes → room .more ≡ 0 → Measured room 0
-  measured-none room l m = record { few = omega arith; days = refl; less = omega arith; left = start (ahead 0); more = none (ahead 0) }
+  measured-none room l m = record { few = omega arith; less = omega arith; left = start (ahead 0); more = none (ahead 0) }
     where
       start : (a : ℕ) → room .left ≡ bytes - (a - a)
       start a = omega arith
@@ -74,23 +92,17 @@ module _ (kind : Kind) (list : List ℕ) (bytes : ℕ) where
       next : listedFrom list index ≡ due .number ∷ listedFrom list (index + 1)
       next = next-listed list index due h e
 
-      pub measured-bad : lastDay < due .number → refusedLine outOfRange 0 ≡ daysAnswer kind (listedFrom list 0) bytes
-      unfolding daysAnswer
-      measured-bad k = rw (m .days ∙ ap allDays next ∙ not-all (due .number) (listedFrom list (index + 1)) k)
-
       pub measured-more :
           (after : Room) (n : ℕ) →
-          due .number ≤ lastDay →
           n ≡ length (lineOf kind (due .number)) →
           after .left ≡ room .left - n →
           after .more ≡ min (room .more + (n - room .left)) longest →
           Measured after (index + 1)
-      measured-more after n k s l o =
+      measured-more after n s l o =
           let size : ahead index ≡ n + ahead (index + 1) = ap (λ (ds : List ℕ). length (textOf kind ds)) next ∙ text-length kind (due .number) (listedFrom list (index + 1)) ∙ ap (λ (i : ℕ). i + ahead (index + 1)) (sym s) in
           let g = grown (ahead 0) (ahead index) (ahead (index + 1)) n (room .left) (room .more) (m .less) size (m .left) (m .more) in
           record {
             few = omega arith;
-            days = m .days ∙ ap allDays next ∙ all-more (due .number) (listedFrom list (index + 1)) k;
             less = omega (arith, m .less);
             left = l ∙ g .0;
             more = o ∙ g .1;
@@ -126,22 +138,44 @@ module _ (kind : Kind) (list : List ℕ) (bytes : ℕ) where
       whole : behind index ≡ ahead 0
       whole = omega (arith, ap (λ (ds : List ℕ). length (textOf kind ds)) end, no-text kind)
 
-      all : allDays (listedFrom list 0) ≡ true
-      all = m .days ∙ ap allDays end ∙ none-all
-
-      pub measured-fits : room .more ≡ 0 → converted (bytes - room .left) ≡ daysAnswer kind (listedFrom list 0) bytes
-      unfolding daysAnswer
+      pub measured-fits : room .more ≡ 0 → converted (bytes - room .left) ≡ fitAnswer (ahead 0) bytes
       measured-fits z =
           let fits : ahead 0 ≤ bytes = omega (arith, m .more, whole) in
           let used : bytes - room .left ≡ ahead 0 = omega (arith, m .left, whole) in
-          rw (all, le-leb (ahead 0) bytes fits) (ap converted used)
+          rw (le-leb (ahead 0) bytes fits) (ap converted used)
 
-      pub measured-short : (room .more ≡ 0 → ⊥) → (total : ℕ) → total ≡ min (bytes + room .more) longest → tooShort total ≡ daysAnswer kind (listedFrom list 0) bytes
-      unfolding daysAnswer
+      pub measured-short : (room .more ≡ 0 → ⊥) → (total : ℕ) → total ≡ min (bytes + room .more) longest → tooShort total ≡ fitAnswer (ahead 0) bytes
       measured-short z total t =
           let long : bytes < ahead 0 = omega (arith, m .more, whole) in
           let sum : total ≡ min (ahead 0) longest = omega (arith, m .more, whole) in
-          rw (all, lt-leb (ahead 0) bytes long) (ap tooShort sum)
+          rw (lt-leb (ahead 0) bytes long) (ap tooShort sum)
+
+-- dates have 11 bytes each
+dates-length : (ds : List ℕ) → length (textOf Dates ds) ≡ 11 * length ds
+dates-length [] = no-text Dates
+dates-length (d ∷ ds) = text-length Dates d ds ∙ omega (arith, date-length d, dates-length ds)
+
+listed-length : (list : List ℕ) → length (listedFrom list 0) ≡ capacity list
+listed-length list = days-length list 0 (capacity list - 0) ∙ omega arith
+
+pub listed-dates : (list : List ℕ) → 11 * capacity list ≡ length (textOf Dates (listedFrom list 0))
+listed-dates list = sym (dates-length (listedFrom list 0) ∙ ap (λ (n : ℕ). 11 * n) (listed-length list))
+
+pub dates-few : (n bytes : ℕ) → n ≤ bytes → converted n ≡ fitAnswer n bytes
+dates-few n bytes h = rw (le-leb n bytes h)
+
+pub dates-many : (n bytes told : ℕ) → bytes < n → told ≡ min n longest → tooShort told ≡ fitAnswer n bytes
+dates-many n bytes told h e = rw (lt-leb n bytes h) (ap tooShort e)
+
+-- the answer for days that are days, and for others
+module _ (kind : Kind) (ds : List ℕ) (bytes : ℕ) where
+  pub not-days : allDays ds ≡ false → refusedLine outOfRange 0 ≡ daysAnswer kind ds bytes
+  unfolding daysAnswer
+  not-days e = rw e
+
+  pub all-are-days : allDays ds ≡ true → fitAnswer (length (textOf kind ds)) bytes ≡ daysAnswer kind ds bytes
+  unfolding daysAnswer
+  all-are-days e = rw e
 
 -- days that are measured and not refused are days, and their lines fit
 each-day : (ds : List ℕ) → allDays ds ≡ true → EachDay ds

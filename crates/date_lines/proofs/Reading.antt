@@ -2,18 +2,18 @@
 -- the days that they put. Assumes nothing.
 use mathlib.Core.Bool.{Bool, true, false}
 use mathlib.Core.Path.{_≡_, refl, ap, sym, _∙_}
-use mathlib.Core.List.{List, [], _∷_}
-use Prim.Native.Nat.{ℕ, zero, suc, _+_, _-_, _≤_, _<_}
+use mathlib.Core.List.{List, [], _∷_, _++_}
+use Prim.Native.Nat.{ℕ, zero, suc, _+_, _*_, _-_, _≤_, _<_}
 use native.Mathlib.Omega.{arith}
 use lib.Dec.{eqb, leb}
-use lib.ListN.{length, take, drop}
+use lib.ListN.{length, take, drop, length-take}
 use lib.Seq.{take-all}
 use borrow.Author.Tests.{eq-eqb, ne-eqb, eqb-true, eqb-false, leb-true, leb-false, lt-ltb, le-ltb}
 use Rattle.days.specs.declared.NumberAnswer.{NumberAnswer}
 use Rattle.days.specs.Refusals.{listTooShort}
 use Rattle.entries.specs.Entries.{capacity, withEntry, withEntries, withEntriesFrom}
 use Rattle.entries.proofs.Laws.{with-entry-length}
-use Rattle.entries.proofs.Putting.{put-all}
+use Rattle.entries.proofs.Putting.{put-all, copied-all}
 use Rattle.date_lines.specs.declared.Kind.{Kind}
 use Rattle.date_lines.specs.declared.Converted.{Converted}
 use Rattle.date_lines.specs.Lines.{lineRead}
@@ -142,6 +142,9 @@ module _ (kind : Kind) (most : ℕ) (text : List ℕ) where
             count = omega (arith, p .count, ap length split);
           }
 
+pub not-accepted : (r : Converted) (refusal line : ℕ) → r ≡ refusedLine refusal line → (refusal ≡ 0 → ⊥) → r .refusal ≡ 0 → ⊥
+not-accepted r refusal line e n z = n (ap (λ (c : Converted). c .refusal) (sym e) ∙ z)
+
 -- the days put, from an entry on
 module _ (kind : Kind) (text list : List ℕ) where
   pub record Put (now : List ℕ) (at index : ℕ) : Type 0 where
@@ -180,6 +183,9 @@ unfolding daysOf
 days-length kind [] = refl
 days-length kind (l ∷ ls) = ap suc (days-length kind ls)
 
+pub front-short : (n : ℕ) (l : List ℕ) (most : ℕ) → n ≤ most → length (take n l) ≤ most
+front-short n l most h = omega (arith, length-take n l)
+
 -- the answers of the whole, by the answer of reading the lines
 module _ (kind : Kind) (most : ℕ) (text list : List ℕ) (read : Converted) (e : read ≡ limitedRead kind most (linesOf text)) where
   pub not-read : (read .refusal ≡ 0 → ⊥) → (read ≡ listAnswer kind most text list) × (list ≡ listAfter kind most text list)
@@ -190,9 +196,30 @@ module _ (kind : Kind) (most : ℕ) (text list : List ℕ) (read : Converted) (e
   unfolding listAfter withRoom
   no-room z h = rw (← e, eq-eqb (read .refusal) 0 z, lt-ltb (capacity list) (read .length) h) (refl, refl)
 
+  enough : read .refusal ≡ 0 → read .length ≡ length (daysOf kind (linesOf text))
+  enough z =
+      ap (λ (r : Converted). r .length) e
+      ∙ ap (λ (r : Converted). r .length) (accepted-lines kind most (linesOf text) (ap (λ (r : Converted). r .refusal) (sym e) ∙ z) .answer)
+      ∙ sym (days-length kind (linesOf text))
+
+  -- the days that were kept are copied
+  pub all-copied :
+      read .refusal ≡ 0 →
+      read .length ≤ capacity list →
+      (before kept after : List ℕ) →
+      kept ≡ withEntriesFrom before 0 (daysOf kind (linesOf text)) →
+      read .length ≤ capacity before →
+      after ≡ take (length (take (4 * read .length) kept)) (take (4 * read .length) kept) ++ drop (length (take (4 * read .length) kept)) list →
+      (read ≡ listAnswer kind most text list) × (after ≡ listAfter kind most text list)
+  unfolding listAfter withRoom
+  all-copied z h before kept after k room a =
+      let n = enough z in
+      let copy = copied-all (daysOf kind (linesOf text)) before kept list after k (omega arith) (rw n at a) in
+      rw (← e, eq-eqb (read .refusal) 0 z, le-ltb (capacity list) (read .length) h) (refl, rw (eq-eqb (read .refusal) 0 z) copy)
+
   pub all-put : read .refusal ≡ 0 → read .length ≤ capacity list → (after : List ℕ) → after ≡ withEntriesFrom list 0 (daysOf kind (linesOf text)) → (read ≡ listAnswer kind most text list) × (after ≡ listAfter kind most text list)
   unfolding listAfter withRoom
   all-put z h after a =
-      let n : read .length ≡ length (linesOf text) = ap (λ (r : Converted). r .length) e ∙ ap (λ (r : Converted). r .length) (accepted-lines kind most (linesOf text) (ap (λ (r : Converted). r .refusal) (sym e) ∙ z) .answer) in
+      let n = enough z in
       rw (← e, eq-eqb (read .refusal) 0 z, le-ltb (capacity list) (read .length) h)
-      (refl, rw (eq-eqb (read .refusal) 0 z) (a ∙ put-all (daysOf kind (linesOf text)) list (omega (arith, days-length kind (linesOf text)))))
+      (refl, rw (eq-eqb (read .refusal) 0 z) (a ∙ put-all (daysOf kind (linesOf text)) list (omega arith)))

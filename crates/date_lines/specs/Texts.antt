@@ -81,13 +81,13 @@ textOf kind (d ∷ ds) = lineOf kind d ++ textOf kind ds
 abbrev pub longest : ℕ
 longest = 18446744073709551615
 
--- the answer for days whose lines are to be put into so many bytes: 2 by the first that is no day, then 7 with the
--- bytes that would do
+-- the answer for so many bytes that are to be put into a text of so many: 7 with those that would do
+abbrev pub fitAnswer : ℕ → ℕ → Converted
+fitAnswer bytes room = cond (leb bytes room) (converted bytes) (tooShort (min bytes longest))
+
+-- the answer for days whose lines are to be put into so many bytes: 2 by the first that is no day, then 7
 unfoldable pub daysAnswer : Kind → List ℕ → ℕ → Converted
-daysAnswer kind days room =
-    cond (allDays days)
-    (cond (leb (length (textOf kind days)) room) (converted (length (textOf kind days))) (tooShort (min (length (textOf kind days)) longest)))
-    (refusedLine outOfRange 0)
+daysAnswer kind days room = cond (allDays days) (fitAnswer (length (textOf kind days)) room) (refusedLine outOfRange 0)
 
 -- THE ANSWER for a list to a text, and the text after
 abbrev pub textAnswer : Kind → List ℕ → List ℕ → Converted

@@ -7,14 +7,14 @@ use days::refusal;
 use text::Line;
 ghost use mathlib.Core.Path.{_≡_};
 ghost use mathlib.Core.List.{_++_};
-ghost use Prim.Native.Nat.{_+_, _-_, _%_, _≤_, min};
+ghost use Prim.Native.Nat.{_+_, _-_, _*_, _%_, _≤_, min};
 ghost use lib.ListN.{length, take, drop};
 ghost use Rattle.days.specs.Days.{lastDay};
 ghost use Rattle.entries.specs.Entries.{withEntriesFrom};
 ghost use Rattle.entries.specs.Listed.{listedFrom, EachDay};
 ghost use Rattle.text.specs.Lines.{Holds};
 ghost use Rattle.date_lines.specs.Lines.{dateRead, numberLineRead, dateLine, lineRead, lineOf};
-ghost use Rattle.date_lines.specs.Texts.{linesOf, daysOf, limitedRead, listAnswer, listAfter, longest, textOf, daysAnswer, textAnswer, withFront, textAfter};
+ghost use Rattle.date_lines.specs.Texts.{linesOf, daysOf, limitedRead, listAnswer, listAfter, longest, allDays, textOf, fitAnswer, daysAnswer, textAnswer, withFront, textAfter};
 ghost use Rattle.date_lines.specs.Parts.{firstLength};
 
 // What stands on the lines.
@@ -33,6 +33,10 @@ pub struct Converted {
 
 // The bytes of a line of a date.
 pub const DATE_BYTES: usize = 11;
+
+// The days of 4,096 lines are kept while these are read, since nothing is written before the last is known to be good. Of
+// more lines all are read again.
+const KEPT: usize = 16384;
 
 const LONGEST: usize = 18446744073709551615;
 
@@ -135,9 +139,11 @@ fn line_end(text: &[u8], at: usize) -> usize
     end
 }
 
-// Reads the lines, of which there may be so many at most, up to the first that is refused.
-fn read_lines(kind: Kind, text: &[u8], most: usize) -> Converted
+// Reads the lines, of which there may be so many at most, up to the first that is refused, and keeps their days beside, as
+// many as there is room for.
+fn read_lines(kind: Kind, text: &[u8], most: usize, kept: &mut [u8]) -> Converted
     ensures { λ r. ⌜ r ≡ limitedRead kind most (linesOf (now (text .entry))) ⌝ }
+    ensures { λ r. ⌜ (r .refusal ≡ 0 → now (kept .exit) ≡ withEntriesFrom (now (kept .entry)) 0 (daysOf kind (linesOf (now (text .entry))))) ⌝ }
 {
     let mut at: usize = 0;
     let mut lines: usize = 0;
@@ -151,6 +157,7 @@ fn read_lines(kind: Kind, text: &[u8], most: usize) -> Converted
         if read.refusal != refusal::NONE {
             return refused_line(read.refusal, line);
         }
+        entries::put_entry(kept, lines, read.number);
         lines = line;
         at = end;
     }
@@ -177,12 +184,18 @@ pub fn lines_to_list(kind: Kind, text: &[u8], most: usize, list: &mut [u8]) -> C
     ensures { λ r. ⌜ r ≡ listAnswer kind most (now (text .entry)) (now (list .entry)) ⌝ }
     ensures { λ _. ⌜ now (list .exit) ≡ listAfter kind most (now (text .entry)) (now (list .entry)) ⌝ }
 {
-    let all = read_lines(kind, text, most);
+    let mut kept = [0u8; KEPT];
+    let all = read_lines(kind, text, most, &mut kept);
     if all.refusal != refusal::NONE {
         return all;
     }
     if list.len() / entries::ENTRY_BYTES < all.length {
         return too_short(all.length);
+    }
+    if all.length <= KEPT / entries::ENTRY_BYTES {
+        let end = entries::ENTRY_BYTES * all.length;
+        bytes::copy(&kept[..end], list);
+        return all;
     }
     put_days(kind, text, list);
     all
@@ -218,16 +231,6 @@ fn number_line(day: u32) -> Line
     Line::empty().number(day).byte(b'\n')
 }
 
-// How many bytes a day's line has.
-fn line_length(kind: Kind, day: u32) -> usize
-    ensures { λ r. ⌜ r ≡ length (lineOf kind day) ⌝ }
-{
-    match kind {
-        Kind::Dates => DATE_BYTES,
-        Kind::Days => number_line(day).len,
-    }
-}
-
 // The sum, or the largest number where it is larger.
 fn sum(a: usize, b: usize) -> usize
     ensures { λ r. ⌜ r ≡ min (a + b) longest ⌝ }
@@ -258,9 +261,37 @@ impl Room {
     }
 }
 
-// Whether each entry is a day, and whether the lines fit.
-fn measure(kind: Kind, list: &[u8], bytes: usize) -> Converted
-    ensures { λ r. ⌜ r ≡ daysAnswer kind (listedFrom (now (list .entry)) 0) bytes ⌝ }
+fn all_days(list: &[u8]) -> bool
+    ensures { λ r. ⌜ r ≡ allDays (listedFrom (now (list .entry)) 0) ⌝ }
+{
+    let mut index: usize = 0;
+    while index < list.len() / entries::ENTRY_BYTES {
+        let due = entries::entry_at(list, index);
+        if Day::LAST < due.number {
+            return false;
+        }
+        index += 1;
+    }
+    true
+}
+
+// Whether so many dates fit.
+fn measure_dates(dates: usize, bytes: usize) -> Converted
+    ensures { λ r. ⌜ r ≡ fitAnswer (11 * dates) bytes ⌝ }
+{
+    if LONGEST / DATE_BYTES < dates {
+        return too_short(LONGEST);
+    }
+    let length = DATE_BYTES * dates;
+    if length <= bytes {
+        return accepted(length);
+    }
+    too_short(length)
+}
+
+// Whether the lines of a list's numbers fit.
+fn measure_numbers(list: &[u8], bytes: usize) -> Converted
+    ensures { λ r. ⌜ r ≡ fitAnswer (length (textOf Kind.Days (listedFrom (now (list .entry)) 0))) bytes ⌝ }
 {
     let mut room = Room {
         left: bytes,
@@ -269,16 +300,27 @@ fn measure(kind: Kind, list: &[u8], bytes: usize) -> Converted
     let mut index: usize = 0;
     while index < list.len() / entries::ENTRY_BYTES {
         let due = entries::entry_at(list, index);
-        if Day::LAST < due.number {
-            return refused_line(refusal::OUT_OF_RANGE, 0);
-        }
-        room = room.take(line_length(kind, due.number));
+        let line = number_line(due.number);
+        room = room.take(line.len);
         index += 1;
     }
     if room.more == 0 {
         return accepted(bytes - room.left);
     }
     too_short(sum(bytes, room.more))
+}
+
+// Whether each entry is a day, and whether the lines fit.
+fn measure(kind: Kind, list: &[u8], bytes: usize) -> Converted
+    ensures { λ r. ⌜ r ≡ daysAnswer kind (listedFrom (now (list .entry)) 0) bytes ⌝ }
+{
+    if !all_days(list) {
+        return refused_line(refusal::OUT_OF_RANGE, 0);
+    }
+    match kind {
+        Kind::Dates => measure_dates(list.len() / entries::ENTRY_BYTES, bytes),
+        Kind::Days => measure_numbers(list, bytes),
+    }
 }
 
 // Puts a day's line from a byte on, and hands back where it ends.
