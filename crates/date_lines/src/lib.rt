@@ -34,8 +34,8 @@ pub struct Converted {
 // The bytes of a line of a date.
 pub const DATE_BYTES: usize = 11;
 
-// The days of 4,096 lines are kept while these are read, since nothing is written before the last is known to be good. Of
-// more lines all are read again.
+// The days of 4,096 lines are kept while these are read, since nothing is written before the last is known to be good.
+// Of more lines all are read again.
 const KEPT: usize = 16384;
 
 const LONGEST: usize = 18446744073709551615;
@@ -139,8 +139,8 @@ fn line_end(text: &[u8], at: usize) -> usize
     end
 }
 
-// Reads the lines, of which there may be so many at most, up to the first that is refused, and keeps their days beside, as
-// many as there is room for.
+// Reads the lines, of which there may be so many at most, up to the first that is refused, and keeps their days beside,
+// as many as there is room for.
 fn read_lines(kind: Kind, text: &[u8], most: usize, kept: &mut [u8]) -> Converted
     ensures { λ r. ⌜ r ≡ limitedRead kind most (linesOf (now (text .entry))) ⌝ }
     ensures { λ r. ⌜ (r .refusal ≡ 0 → now (kept .exit) ≡ withEntriesFrom (now (kept .entry)) 0 (daysOf kind (linesOf (now (text .entry))))) ⌝ }

@@ -1,4 +1,5 @@
--- `lines_to_list` meets its contract: by the answer of reading the lines; the days are those that were kept, or read again. Assumes nothing.
+-- `lines_to_list` meets its contract: by the answer of reading the lines; the days are those that were kept, or read
+-- again. Assumes nothing.
 use Prim.Native.Nat.{ℕ, _*_}
 use mathlib.Core.Path.{sym, _∙_}
 use native.Mathlib.Omega.{arith}

@@ -1,4 +1,5 @@
--- `measure_numbers` meets its contract: what `Measured` says holds before each entry, and gives the answer at both ends. Assumes nothing.
+-- `measure_numbers` meets its contract: what `Measured` says holds before each entry, and gives the answer at both
+-- ends. Assumes nothing.
 use Prim.Native.Nat.{_-_}
 use mathlib.Core.Path.{refl, _∙_}
 use native.Mathlib.Omega.{arith}

@@ -1,4 +1,5 @@
--- `read_lines` meets its contract: what `Passed` and `Put` say holds before each line, and gives the answer at each of the three ends. Assumes nothing.
+-- `read_lines` meets its contract: what `Passed` and `Put` say holds before each line, and gives the answer at each of
+-- the three ends. Assumes nothing.
 use Prim.Native.Nat.{_-_}
 use mathlib.Core.Path.{_∙_}
 use native.Mathlib.Omega.{arith}
