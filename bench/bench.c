@@ -29,6 +29,19 @@ static void every(uint32_t width, size_t len) { sink += plain_every_day(0, DAYS 
 static void signs(uint32_t unused, size_t len) { (void)unused, sink += graha_sign_entries(0, DAYS - 1, list, len); }
 static void plain_signs(uint32_t unused, size_t len) { (void)unused, sink += plain_sign_entries(0, DAYS - 1, other, len).length; }
 
+/* The month turns of the whole span at once; and the month of a day in every cycle, on the whole row. */
+enum { TURNS = 13600 };
+static void turns(uint32_t unused, size_t len) { (void)unused, sink += graha_months_extend(0, 1, DAYS - 1, list, len); }
+static void plain_turns(uint32_t unused, size_t len) { (void)unused, sink += plain_months_extend(0, 1, DAYS - 1, other, len); }
+static void months_asked(uint32_t unused, size_t len) {
+    (void)unused;
+    for (uint32_t day = 0; day < DAYS; day += 4016) sink += graha_month_number(TURNS, DAYS, day, list, len);
+}
+static void plain_months_asked(uint32_t unused, size_t len) {
+    (void)unused;
+    for (uint32_t day = 0; day < DAYS; day += 4016) sink += plain_month_number(TURNS, DAYS, day, other, len);
+}
+
 typedef uint32_t (*number)(uint32_t);
 
 static void all_days(number f) {
@@ -152,6 +165,9 @@ static void *search_all(void *unused) {
     sink += graha_search_length(0, DAYS - 1, 0, SPARSE, 0) + graha_search_looked(0, DAYS - 1, 0, SPARSE, 0);
     signs(0, ROOM);
     sink += graha_sign_entries_length(0, DAYS - 1);
+    turns(0, 4 * TURNS);
+    sink += graha_months_extended_turns(0, 1, DAYS - 1, 4 * TURNS) + graha_month_result(TURNS, DAYS, 7, list, 4 * TURNS) +
+            graha_month_start(TURNS, DAYS, 7, list, 4 * TURNS) + graha_month_number(TURNS, DAYS, 7, list, 4 * TURNS);
     return unused;
 }
 static void *places(void *unused) {
@@ -226,6 +242,13 @@ int main(int count, char **word) {
         return 1;
     }
     pair("sign entries, a list that just fits", search_job(signs, 0, signs_needed), search_job(plain_signs, 0, ROOM), -8);
+    pair("month turns, an entry for each day", search_job(turns, 0, ROOM), search_job(plain_turns, 0, ROOM), 1.1);
+    pair("month turns, a list that just fits", search_job(turns, 0, 4 * TURNS), search_job(plain_turns, 0, 4 * TURNS), 1.1);
+    pair("the month of a day in every cycle", search_job(months_asked, 0, 4 * TURNS), search_job(plain_months_asked, 0, 4 * TURNS), 1.1);
+    if (memcmp(list, other, 4 * TURNS)) {
+        puts("the two rows of month turns differ");
+        return 1;
+    }
     printf("%-46s %15s %15s %8s   %s\n", "each of 401,600 days", "proved", "plain C", "ratio", "to reach");
     pair("mean Sun", call_job(graha_mean_sun), call_job(plain_mean_sun), 1.1);
     pair("mean Moon", call_job(graha_mean_moon), call_job(plain_mean_moon), 1.1);

@@ -245,6 +245,41 @@ plain_found plain_sign_entries(uint32_t first, uint32_t last, uint8_t *list, siz
     return found;
 }
 
+static inline uint32_t tithi_of(uint32_t day) { return past(true_moon(day), true_sun(day)) / 43200; }
+
+/* The month turns of so many days behind the covered ones; where the list may be too short they are counted first. With
+ * no list they are only counted. */
+static inline uint32_t turns_of(uint32_t covered, uint32_t days, uint8_t *list) {
+    uint32_t before = tithi_of(covered - 1), count = 0;
+    for (uint32_t day = covered; day < covered + days; day++) {
+        uint32_t tithi = tithi_of(day);
+        if (tithi < before) {
+            if (list) put(list, 4 * (size_t)count, day);
+            count++;
+        }
+        before = tithi;
+    }
+    return count;
+}
+
+uint32_t plain_months_extend(uint32_t turns, uint32_t covered, uint32_t days, uint8_t *list, size_t len) {
+    if (covered < 1 || covered > LAST + 1 || days > LAST + 1 - covered) return 2;
+    if (len / 4 < turns) return 7;
+    if (len / 4 - turns < days && turns_of(covered, days, NULL) > len / 4 - turns) return 7;
+    turns_of(covered, days, list + 4 * (size_t)turns);
+    return 0;
+}
+
+uint32_t plain_month_number(uint32_t turns, uint32_t covered, uint32_t day, const uint8_t *list, size_t len) {
+    if (covered < 1 || covered > LAST + 1 || day >= covered) return 0;
+    if (len / 4 < turns) return turns;
+    for (uint32_t number = turns; number > 0; number--) {
+        const uint8_t *entry = list + 4 * (size_t)(number - 1);
+        if ((entry[0] | (uint32_t)entry[1] << 8 | (uint32_t)entry[2] << 16 | (uint32_t)entry[3] << 24) <= day) return number;
+    }
+    return 0;
+}
+
 /* How far ahead of an older motion the mean place is, in parts of a second: K is in both. */
 typedef struct {
     uint64_t d, p, q, circles, days;

@@ -59,6 +59,10 @@ plain_found plain_sign_entries(uint32_t first, uint32_t last, uint8_t *list, siz
 uint64_t plain_dates_to_list(const uint8_t *text, size_t text_len, uint8_t *list, size_t list_len);
 uint64_t plain_list_to_dates(const uint8_t *list, size_t list_len, uint8_t *text, size_t text_len);
 
+/* A row of month turns, extended and asked. */
+uint32_t plain_months_extend(uint32_t turns, uint32_t covered, uint32_t days, uint8_t *list, size_t len);
+uint32_t plain_month_number(uint32_t turns, uint32_t covered, uint32_t day, const uint8_t *list, size_t len);
+
 /* Tests every day of the span. */
 plain_found plain_every_day(uint32_t first, uint32_t last, uint32_t start, uint32_t width, uint32_t weekday, uint8_t *list, size_t len);
 #endif

@@ -30,7 +30,8 @@ def record(number, call):
     if lists:
         lines += [f"    if (real_{call.name}({arguments(call, other=True)}) != result)", '        stop("a result hangs on the bytes of a list");']
     lines += [f"    put_call({number});"]
-    lines += [f"    put(&{word}, sizeof {word});" for kind, word in call.parameters if kind != "uint8_t *"]
+    lines += [f"    put(&{word}, sizeof {word});" for _, word in call.numbers()]
+    lines += [f"    put_read({bytes_}, {length});" for bytes_, length in call.lists(header.READ)]
     lines += ["    put(&result, sizeof result);"]
     lines += [f"    put_written({bytes_}, other_{bytes_}, {length});" for bytes_, length in lists]
     return lines + ["    return result;", "}", ""]
@@ -38,17 +39,15 @@ def record(number, call):
 
 def replay(number, call):
     name, every_day = call.name, call.parameters == [("uint32_t", "day")]
-    lists = dict(call.lists())
+    lists, read = dict(call.lists()), dict(call.lists(header.READ))
     lines = [f"static struct days days_{number};", ""] if every_day else []
     lines += [f"static int make_{number}(void)", "{"]
-    for kind, word in call.parameters:
-        if kind == "double":
-            lines += [f"    double {word} = take_double();"]
-        elif kind != "uint8_t *":
-            lines += [f"    {kind} {word} = ({kind})take({WIDTH[kind]});"]
+    for kind, word in call.numbers():
+        lines += [f"    double {word} = take_double();" if kind == "double" else f"    {kind} {word} = ({kind})take({WIDTH[kind]});"]
+    lines += [f"    const uint8_t *{bytes_} = show({length});" for bytes_, length in read.items()]
     lines += [f"    uint64_t expected = take({WIDTH[call.result]});"]
-    if len(lists) > 1:
-        raise ValueError(f"{name} has two lists, and there is memory for one")
+    if len(lists) > 1 or len(read) > 1:
+        raise ValueError(f"{name} has two lists of a kind, and there is memory for one")
     lines += [f"    uint8_t *{bytes_} = lend({length});" for bytes_, length in lists.items()]
     came = f"{name}({arguments(call)})"
     lines += [f"    uint64_t came = {f'bits_of({came})' if call.result == 'double' else came};"]
@@ -56,8 +55,8 @@ def replay(number, call):
         lines += [f"    see(&days_{number}, day);"]
     same = ["same(came, expected)"] + [f"same_list({length})" for length in lists.values()]
     lines += [f"    int holds = {' && '.join(same)};", "    if (!holds)"]
-    form = ", ".join({"double": "%a", "uint8_t *": word}.get(kind, "%llu") for kind, word in call.parameters)
-    values = [word if kind == "double" else f"(unsigned long long){word}" for kind, word in call.parameters if kind != "uint8_t *"]
+    form = ", ".join({"double": "%a", header.WRITTEN: word, header.READ: word}.get(kind, "%llu") for kind, word in call.parameters)
+    values = [word if kind == "double" else f"(unsigned long long){word}" for kind, word in call.numbers()]
     return lines + [f'        printf("in {name}({form})\\n", {", ".join(values)});', "    return holds;", "}", ""]
 
 

@@ -1,7 +1,8 @@
 /* The calls of libhost.a for the second program on x86-64, each made of the proved archive (whose names have `real_`
- * before them here) and written down for replay.c: the call's number, its arguments and what it handed back, low byte
- * first, and for a list how many bytes from its start were written, and these. make_calls.py writes record.inc, which
- * has a function for each call of the header.
+ * before them here) and written down for replay.c: the call's number, its arguments, a list that it only reads (where
+ * it is not the one read before), and what it handed back, low byte first; and for a list that it may write the first
+ * byte written, how many there are, and these. make_calls.py writes record.inc, which has a function for each call of
+ * the header.
  *
  * Which bytes of a list are written shows where the call is made once more, on a list in which every bit is turned: a
  * byte that comes out the same in both is written, and one that comes out turned is as it was. */
@@ -67,15 +68,36 @@ static uint8_t *turned(const uint8_t *list, uint64_t length)
 /* The bytes written of a list, by the two lists after the call. */
 static void put_written(const uint8_t *list, uint8_t *other, uint64_t length)
 {
-    uint64_t written = 0;
-    while (written < length && list[written] == other[written])
+    uint64_t first = 0, written = 0;
+    while (first < length && list[first] != other[first])
+        first++;
+    while (first + written < length && list[first + written] == other[first + written])
         written++;
-    for (uint64_t at = written; at < length; at++)
-        if (list[at] + other[at] != 0xFF)
-            stop("a list is not written from its start on");
+    for (uint64_t at = 0; at < length; at++)
+        if ((at < first || at >= first + written) && list[at] + other[at] != 0xFF)
+            stop("a list is written in two places");
+    put(&first, sizeof first);
     put(&written, sizeof written);
-    put(list, written);
+    put(list + first, written);
     free(other);
+}
+
+/* A list that is read: 0 where it has the bytes of the one read before, else 1 and these. */
+static void put_read(const uint8_t *list, uint64_t length)
+{
+    static uint8_t *before;
+    static uint64_t length_before;
+    unsigned char another = before == NULL || length != length_before || memcmp(before, list, length) != 0;
+    put(&another, 1);
+    if (!another)
+        return;
+    put(list, length);
+    free(before);
+    before = malloc(length + 1);
+    if (before == NULL)
+        stop("no memory for a list that is read");
+    memcpy(before, list, length);
+    length_before = length;
 }
 
 #include "record.inc"

@@ -1,7 +1,8 @@
 /* Makes the calls that record.c wrote down (on standard input) of another machine's libhost.a, and compares every
- * number that is handed back and every byte of every list, and of the bytes on both sides of it. Ends at the first
- * difference with status 1, and also where the calls break off, where a call of the header was never made, or one that
- * takes a day alone not on every day. make_calls.py writes replay.inc, which has a function for each call. */
+ * number that is handed back and every byte of every list, and of the bytes on both sides of it (of a list that is only
+ * read, when another is read, and at the end). Ends at the first difference with status 1, and also where the calls
+ * break off, where a call of the header was never made, or one that takes a day alone not on every day. make_calls.py
+ * writes replay.inc, which has a function for each call. */
 #include <stdio.h>
 #include <stdlib.h>
 #include <string.h>
@@ -89,20 +90,50 @@ static uint8_t *lend(uint64_t length)
 /* Every byte: those that x86-64 wrote, and the pattern in all others. */
 static int same_list(uint64_t length)
 {
-    uint64_t written = take(8);
+    uint64_t first = take(8), written = take(8);
     size_t start = list_start(length), all = start + (size_t)length + GUARD;
-    if (written > length)
+    if (first > length || written > length - first)
         stop("more is written than the list has");
     lists++;
     list_bytes += length;
     for (size_t place = 0; place < all; place++) {
-        uint8_t expected = place >= start && place - start < written ? next_byte() : pattern(place);
+        uint8_t expected = place >= start + first && place - start - first < written ? next_byte() : pattern(place);
         if (memory[place] != expected) {
             printf("byte %ld of the list is %u, and on x86-64 %u, ", (long)place - (long)start, memory[place], expected);
             return 0;
         }
     }
     return 1;
+}
+
+/* The memory of a list that is read, and what it must hold as long as it is lent. */
+static uint8_t shown[sizeof memory], held[sizeof memory];
+static uint64_t shown_length;
+
+static void same_shown(void)
+{
+    if (memcmp(shown, held, sizeof shown) != 0)
+        stop("a list that is read is changed");
+}
+
+static const uint8_t *show(uint64_t length)
+{
+    uint8_t *list = shown + list_start(length);
+    if (next_byte() == 0) {
+        if (length != shown_length)
+            stop("a list that is read has another length");
+        return list;
+    }
+    same_shown();
+    if (length > sizeof shown - 2 * GUARD - 7)
+        stop("a list is longer than the memory for it");
+    for (uint64_t place = 0; place < length; place++)
+        list[place] = next_byte();
+    memcpy(held, shown, sizeof shown);
+    shown_length = length;
+    lists++;
+    list_bytes += length;
+    return list;
 }
 
 /* The days on which a call was made that takes a day alone, and how many they are. */
@@ -131,6 +162,7 @@ int main(void)
         if (!MAKE[number]())
             return 1;
     }
+    same_shown();
     for (int number = 0; number < CALLS; number++) {
         if (made[number] == 0 || (EVERY_DAY[number] != NULL && EVERY_DAY[number]->count != DAYS)) {
             printf("%s was not called%s\n", NAMES[number], made[number] == 0 ? "" : " on every day");

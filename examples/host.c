@@ -1,5 +1,6 @@
 /* A small host program: it dates a day, prints its places, sets the nine arms of a planet table, drives nine for three
- * days, dates a Saka lunar date, and looks for the Mondays with the Sun in the first degree. */
+ * days, dates a Saka lunar date, looks for the Mondays with the Sun in the first degree, and leafs through a year by
+ * lunar month. */
 #include <stdio.h>
 #include <stdlib.h>
 
@@ -98,6 +99,48 @@ static uint32_t day_at(const uint8_t *list, size_t entry)
     return bytes[0] | (uint32_t)bytes[1] << 8 | (uint32_t)bytes[2] << 16 | (uint32_t)bytes[3] << 24;
 }
 
+/* What an operator leafs through: a row of month turns, which covers the days from day 0 on. */
+typedef struct {
+    uint32_t turns, covered;
+    uint8_t list[4 * 1200];
+} row;
+
+/* Covers a day too, and nothing is reckoned twice. */
+static uint32_t cover(row *months, uint32_t day)
+{
+    if (day < months->covered)
+        return GRAHA_ACCEPTED;
+    uint32_t days = day + 1 - months->covered;
+    uint32_t turns = graha_months_extended_turns(months->turns, months->covered, days, sizeof months->list);
+    uint32_t result = graha_months_extend(months->turns, months->covered, days, months->list, sizeof months->list);
+    if (result == GRAHA_ACCEPTED) {
+        months->turns = turns;
+        months->covered += days;
+    }
+    return result;
+}
+
+/* Leafs from one month turn to the next, through the year from a day on. */
+static uint32_t leaf(uint32_t first)
+{
+    static row months = {.turns = 0, .covered = 1};
+    uint32_t seen = 0;
+    for (uint32_t day = first; day < first + 365; day++) {
+        uint32_t result = cover(&months, day);
+        if (result == GRAHA_ACCEPTED)
+            result = graha_month_result(months.turns, months.covered, day, months.list, sizeof months.list);
+        if (result != GRAHA_ACCEPTED)
+            return result;
+        uint32_t number = graha_month_number(months.turns, months.covered, day, months.list, sizeof months.list);
+        if (number == seen)
+            continue;
+        seen = number;
+        printf("  month %u from ", (unsigned)number);
+        print_date(graha_month_start(months.turns, months.covered, day, months.list, sizeof months.list));
+    }
+    return GRAHA_ACCEPTED;
+}
+
 static uint32_t search(uint8_t *list, size_t list_len)
 {
     return graha_search(FIRST, LAST, SUN_START, SUN_WIDTH, WEEKDAY, list, list_len);
@@ -159,5 +202,8 @@ int main(void)
         print_date(day_at(entries, 0));
         print_date(day_at(entries, length - 1));
     }
-    return result == GRAHA_ACCEPTED ? 0 : 1;
+    if (result != GRAHA_ACCEPTED) return 1;
+
+    printf("the lunar months of the year:\n");
+    return leaf(day) == GRAHA_ACCEPTED ? 0 : 1;
 }

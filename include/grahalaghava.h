@@ -154,6 +154,26 @@ uint32_t graha_sign_entries(uint32_t first, uint32_t last, uint8_t *list, uint64
 /* How many these days are, however long a list: for results 0 and 7, else 0. */
 uint32_t graha_sign_entries_length(uint32_t first, uint32_t last);
 
+/* Leafing by lunar month. A month turns on a day whose tithi at sunrise is smaller than the day before's; day 0 is not
+ * counted. The host keeps a row of the turns: their number, the number of days covered (from day 0 on; a new row has 0
+ * turns and 1 day), and a list of the turns' days, four bytes each as in the search. list_len is in bytes; a tail under
+ * four is no entry. Any numbers and any bytes are taken at their word.
+ * Extends a row by so many days, 0 or more. With result 0 the new turns stand in the list behind the row's own, all
+ * other bytes are as they were, and the row has graha_months_extended_turns turns and covered + days days. With any
+ * other result the whole list is as it was. Result 2: covered not 1 to 401600, or a day past the last; 7: list_len / 4
+ * is less than the turns. A list of days / 29 + 1 more entries always does. */
+uint32_t graha_months_extend(uint32_t turns, uint32_t covered, uint32_t days, uint8_t *list, uint64_t list_len);
+/* How many turns the row then has. For result 7 how many entries would do: turns, if these are too many already, else
+ * the turns that the extended row would have. For result 2 it is 0. */
+uint32_t graha_months_extended_turns(uint32_t turns, uint32_t covered, uint32_t days, uint64_t list_len);
+/* The month of a covered day by a row: the latest turn at or before it, which is the last entry by place that is not
+ * after it, and how many turns there were up to it, which is that place from 1. Where there is none both are 0, with
+ * result 0. Result 2: covered not 1 to 401600, or a day not covered; 7: list_len / 4 is less than turns, and then the
+ * number is turns. */
+uint32_t graha_month_result(uint32_t turns, uint32_t covered, uint32_t day, const uint8_t *list, uint64_t list_len);
+uint32_t graha_month_start(uint32_t turns, uint32_t covered, uint32_t day, const uint8_t *list, uint64_t list_len);
+uint32_t graha_month_number(uint32_t turns, uint32_t covered, uint32_t day, const uint8_t *list, uint64_t list_len);
+
 #ifdef __cplusplus
 }
 #endif

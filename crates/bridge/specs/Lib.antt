@@ -5,3 +5,4 @@ pub mod Elements
 pub mod Numbers
 pub mod Pieces
 pub mod Iso
+pub mod Months

@@ -3,8 +3,9 @@
 use mathlib.Core.Bool.{cond}
 use mathlib.Core.List.{List}
 use mathlib.Core.Path.{_≡_}
-use Prim.Native.Nat.{ℕ}
+use Prim.Native.Nat.{ℕ, _≤_}
 use Rattle.longitudes.specs.declared.MeanLongitude.{MeanLongitude}
+use Rattle.lunar_months.specs.declared.MonthNumbers.{MonthNumbers}
 use Rattle.older_motions.specs.declared.Farthest.{Farthest}
 use Rattle.panchanga.specs.declared.Panchanga.{Panchanga}
 use Rattle.planets.specs.declared.TrueLongitudes.{TrueLongitudes}
@@ -48,6 +49,13 @@ pub record BridgeFarthest (meant found : Farthest) : Type 0 where
   pub numerator : found .numerator ≡ meant .numerator
   pub divisor : found .divisor ≡ meant .divisor
   pub day : found .day ≡ meant .day
+
+-- and its number is at most the row's
+pub record BridgeMonth (turns : ℕ) (meant found : MonthNumbers) : Type 0 where
+  pub refusal : found .refusal ≡ meant .refusal
+  pub start : found .start ≡ meant .start
+  pub number : found .number ≡ meant .number
+  pub most : found .number ≤ turns
 
 pub record BridgeCause (meant : Cause) (found : CauseFound) : Type 0 where
   pub condition : found .condition ≡ meant .condition

@@ -11,7 +11,8 @@ use lib.Seq.{take-at, take-length, drop-length, length-take-le}
 use Rattle.entries.specs.Entries.{entries, capacity, withEntry, withEntries, withEntriesFrom}
 use Rattle.entries.proofs.Laws.{entries-length, entries-next, with-entry-length, with-entries-length}
 
-put-append : (l : List ℕ) (k : ℕ) (xs ys : List ℕ) → withEntriesFrom l k (xs ++ ys) ≡ withEntriesFrom (withEntriesFrom l k xs) (k + length xs) ys
+-- the days of two lists put one after another
+pub put-append : (l : List ℕ) (k : ℕ) (xs ys : List ℕ) → withEntriesFrom l k (xs ++ ys) ≡ withEntriesFrom (withEntriesFrom l k xs) (k + length xs) ys
 unfolding withEntriesFrom
 put-append l k [] ys = ap (λ (i : ℕ). withEntriesFrom l i ys) (omega arith)
 put-append l k (x ∷ xs) ys =

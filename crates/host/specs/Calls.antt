@@ -7,6 +7,8 @@ use Rattle.days.specs.declared.Day.{Day}
 use Rattle.days.specs.Days.{lastDay, pairAt}
 use Rattle.civil.specs.declared.Date.{Date}
 use Rattle.saka.specs.declared.LunarDate.{LunarDate}
+use Rattle.lunar_months.specs.declared.Months.{Months}
+use Rattle.panchanga.specs.TrueLongitudes.{firstEdition}
 
 abbrev pub dateFrom : ℕ → ℕ → ℕ → Date
 dateFrom y m d = record { year = y; month = m; day = d }
@@ -26,3 +28,7 @@ markFrom n = not (eqb n 0)
 -- a number of the day with the number n; 0 where there is no such day
 unfoldable pub onNumber : (Day → ℕ) → ℕ → ℕ
 onNumber f n = cond (leb n lastDay) (f (pairAt n)) 0
+
+-- the first edition's row of so many month starts (paper 02's turns) and days covered
+abbrev pub rowFrom : ℕ → ℕ → Months
+rowFrom turns covered = record { edition = firstEdition; starts = turns; covered = covered }

@@ -1,0 +1,3 @@
+pub mod MonthStarts
+pub mod Rows
+pub mod Parts
