@@ -1,8 +1,8 @@
 //! The calls of the two static archives: `host`, the museum's C calls, and `bridge`, a test library
 //! that reaches the search, the look and the reasons with every condition and edition, the text that
 //! `find` prints, a day's elements in an edition, a mean place with its left-over and divisor, the star
-//! planets together, rows of records, and the dates that libraries write. A number of a refused call is
-//! 0, but with 7.
+//! planets together, rows of records, the dates that libraries write, and rows of month turns in an
+//! edition. A number of a refused call is 0, but with 7.
 
 use crate::reference::records::Record;
 
@@ -104,6 +104,43 @@ unsafe extern "C" {
     pub fn graha_sign_entries(first: u32, last: u32, list: *mut u8, list_len: usize) -> u32;
     pub safe fn graha_sign_entries_length(first: u32, last: u32) -> u32;
 
+    /// Leafing by lunar month, on a row with this number of turns and of days covered. The list is lent for
+    /// the call, and is only read where a day is asked for.
+    pub fn graha_months_extend(
+        turns: u32,
+        covered: u32,
+        days: u32,
+        list: *mut u8,
+        list_len: usize,
+    ) -> u32;
+    pub safe fn graha_months_extended_turns(
+        turns: u32,
+        covered: u32,
+        days: u32,
+        list_len: usize,
+    ) -> u32;
+    pub fn graha_month_result(
+        turns: u32,
+        covered: u32,
+        day: u32,
+        list: *const u8,
+        list_len: usize,
+    ) -> u32;
+    pub fn graha_month_start(
+        turns: u32,
+        covered: u32,
+        day: u32,
+        list: *const u8,
+        list_len: usize,
+    ) -> u32;
+    pub fn graha_month_number(
+        turns: u32,
+        covered: u32,
+        day: u32,
+        list: *const u8,
+        list_len: usize,
+    ) -> u32;
+
     /// Orders for the arms: to go (1) to an angle, and to run (2) at a rate or to hold (0).
     pub safe fn graha_place_result(day: u32, body: u32) -> u32;
     pub safe fn graha_place_order(day: u32, body: u32) -> u32;
@@ -155,6 +192,45 @@ unsafe extern "C" {
         text: *mut u8,
         text_len: usize,
     ) -> u64;
+
+    /// Leafing by lunar month in an edition. The upper half of a number is the refusal, and the lower half
+    /// the turns after, or the days covered.
+    pub safe fn bridge_months_new(edition: u32) -> u32;
+    pub fn bridge_months_extend(
+        edition: u32,
+        turns: u32,
+        covered: u32,
+        days: u32,
+        list: *mut u8,
+        list_len: usize,
+    ) -> u64;
+    pub safe fn bridge_months_covered(
+        edition: u32,
+        turns: u32,
+        covered: u32,
+        days: u32,
+        list_len: u32,
+    ) -> u64;
+    /// In the upper half the turns up to the latest one, and in the lower half its day; 0 where there is
+    /// none, and with each refusal.
+    pub fn bridge_month_at(
+        edition: u32,
+        turns: u32,
+        covered: u32,
+        asked_edition: u32,
+        day: u32,
+        list: *const u8,
+        list_len: usize,
+    ) -> u64;
+    pub fn bridge_month_at_result(
+        edition: u32,
+        turns: u32,
+        covered: u32,
+        asked_edition: u32,
+        day: u32,
+        list: *const u8,
+        list_len: usize,
+    ) -> u32;
 
     /// A body above 8 is refused with 16, on numbers that are no days too.
     pub safe fn bridge_longitude_result(body: u32, day: u32) -> u32;

@@ -55,6 +55,9 @@ fn main() {
         runs::parted::run(checks, &almanac)
     });
     checks.part("reasons", |checks| runs::reasons::run(checks, &almanac));
+    checks.part("lunar months", |checks| {
+        runs::month_starts::run(checks, &almanac)
+    });
     checks.part("entries into signs", |checks| {
         runs::signs::run(checks, &almanac)
     });

@@ -13,15 +13,22 @@ pub fn result_for(days: &[u32], entries: usize) -> u32 {
     }
 }
 
+/// A list of bytes after days were written from an entry on, which it has.
+pub fn written_from(entry: usize, days: &[u32], before: &[u8]) -> Vec<u8> {
+    let mut after = before.to_vec();
+    for (entry, day) in after.chunks_exact_mut(4).skip(entry).zip(days) {
+        entry.copy_from_slice(&day.to_le_bytes());
+    }
+    after
+}
+
 /// A list of bytes after the call: "four a day, low byte first, and a tail under four bytes is no
 /// place and stays as it was" ("What the table reckons"). "Lent memory is untouched by each refusal;
 /// on acceptance the places behind the list stay as they were" ("Refusals by number").
 pub fn list_after(days: &[u32], before: &[u8]) -> Vec<u8> {
-    let mut after = before.to_vec();
     if result_for(days, before.len() / 4) == 0 {
-        for (entry, day) in after.chunks_exact_mut(4).zip(days) {
-            entry.copy_from_slice(&day.to_le_bytes());
-        }
+        written_from(0, days, before)
+    } else {
+        before.to_vec()
     }
-    after
 }

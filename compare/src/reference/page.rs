@@ -110,7 +110,7 @@ enum Said {
 }
 
 /// 1 to 9 decimal digits.
-fn number(word: &str) -> Option<u32> {
+pub fn number(word: &str) -> Option<u32> {
     let of_digits = word.chars().all(|letter| letter.is_ascii_digit());
     let in_width = (1..=9).contains(&word.len());
     if of_digits && in_width {

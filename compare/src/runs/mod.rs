@@ -19,6 +19,7 @@ pub mod lines;
 pub mod longitudes;
 pub mod look;
 pub mod month;
+pub mod month_starts;
 pub mod page_text;
 pub mod pairs;
 pub mod parted;
