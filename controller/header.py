@@ -16,8 +16,8 @@ class Call:
         self.parameters = [(kind.strip(), word) for kind, word in parameters]
 
     def lists(self, kind=WRITTEN):
-        """The names of each list that is lent to be written (or READ: to be read), its bytes and its length, which is
-        the parameter behind them."""
+        """The names of each list that is lent to be written (or READ: only to be read), its bytes and its length, which
+        is the parameter behind them."""
         pairs = zip(self.parameters, self.parameters[1:])
         return [(bytes_, length) for (found, bytes_), (_, length) in pairs if found == kind]
 

@@ -69,12 +69,12 @@ static uint8_t *turned(const uint8_t *list, uint64_t length)
 static void put_written(const uint8_t *list, uint8_t *other, uint64_t length)
 {
     uint64_t first = 0, written = 0;
-    while (first < length && list[first] != other[first])
+    while (first < length && list[first] + other[first] == 0xFF)
         first++;
     while (first + written < length && list[first + written] == other[first + written])
         written++;
-    for (uint64_t at = 0; at < length; at++)
-        if ((at < first || at >= first + written) && list[at] + other[at] != 0xFF)
+    for (uint64_t at = first + written; at < length; at++)
+        if (list[at] + other[at] != 0xFF)
             stop("a list is written in two places");
     put(&first, sizeof first);
     put(&written, sizeof written);
@@ -82,12 +82,12 @@ static void put_written(const uint8_t *list, uint8_t *other, uint64_t length)
     free(other);
 }
 
-/* A list that is read: 0 where it has the bytes of the one read before, else 1 and these. */
-static void put_read(const uint8_t *list, uint64_t length)
+/* A list that is only read: 0 where it has the bytes of the one read before, else 1 and these. */
+static inline void put_read(const uint8_t *list, uint64_t length)
 {
     static uint8_t *before;
     static uint64_t length_before;
-    unsigned char another = before == NULL || length != length_before || memcmp(before, list, length) != 0;
+    unsigned char another = before == NULL || length != length_before || (length > 0 && memcmp(before, list, length) != 0);
     put(&another, 1);
     if (!another)
         return;
@@ -96,7 +96,8 @@ static void put_read(const uint8_t *list, uint64_t length)
     before = malloc(length + 1);
     if (before == NULL)
         stop("no memory for a list that is read");
-    memcpy(before, list, length);
+    for (uint64_t at = 0; at < length; at++)
+        before[at] = list[at];
     length_before = length;
 }
 

@@ -11,6 +11,9 @@
 
 enum { END = 255, DAYS = 401600, GUARD = 16 };
 
+/* The almanac file of all days is the longest of what is lent. */
+enum { LONGEST = (DAYS + 8) / 9 * 512 };
+
 static void stop(const char *why)
 {
     printf("%s\n", why);
@@ -64,7 +67,7 @@ static int same(uint64_t came, uint64_t expected)
 }
 
 /* The memory of a list, with bytes on both sides of it, at an address that is seldom a multiple of 4. */
-static uint8_t memory[4 * DAYS + 4096];
+static uint8_t memory[LONGEST + 4096];
 static uint64_t lists, list_bytes;
 
 static uint8_t pattern(size_t place)
@@ -97,7 +100,8 @@ static int same_list(uint64_t length)
     lists++;
     list_bytes += length;
     for (size_t place = 0; place < all; place++) {
-        uint8_t expected = place >= start + first && place - start - first < written ? next_byte() : pattern(place);
+        int is_written = place >= start + first && place - start - first < written;
+        uint8_t expected = is_written ? next_byte() : pattern(place);
         if (memory[place] != expected) {
             printf("byte %ld of the list is %u, and on x86-64 %u, ", (long)place - (long)start, memory[place], expected);
             return 0;
@@ -106,34 +110,33 @@ static int same_list(uint64_t length)
     return 1;
 }
 
-/* The memory of a list that is read, and what it must hold as long as it is lent. */
+/* The memory of a list that is only read, and what it must hold as long as it is lent. */
 static uint8_t shown[sizeof memory], held[sizeof memory];
 static uint64_t shown_length;
 
 static void same_shown(void)
 {
-    if (memcmp(shown, held, sizeof shown) != 0)
-        stop("a list that is read is changed");
+    if (memcmp(shown, held, list_start(shown_length) + (size_t)shown_length + GUARD) != 0)
+        stop("a list that is only read is changed");
 }
 
-static const uint8_t *show(uint64_t length)
+static inline const uint8_t *show(uint64_t length)
 {
-    uint8_t *list = shown + list_start(length);
-    if (next_byte() == 0) {
-        if (length != shown_length)
-            stop("a list that is read has another length");
-        return list;
-    }
-    same_shown();
     if (length > sizeof shown - 2 * GUARD - 7)
         stop("a list is longer than the memory for it");
-    for (uint64_t place = 0; place < length; place++)
-        list[place] = next_byte();
-    memcpy(held, shown, sizeof shown);
+    size_t start = list_start(length);
+    if (next_byte() == 0) {
+        if (length != shown_length)
+            stop("a list that is only read has another length");
+        return shown + start;
+    }
+    same_shown();
+    for (size_t place = start; place < start + length; place++)
+        shown[place] = held[place] = next_byte();
     shown_length = length;
     lists++;
     list_bytes += length;
-    return list;
+    return shown + start;
 }
 
 /* The days on which a call was made that takes a day alone, and how many they are. */
