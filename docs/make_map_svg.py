@@ -16,14 +16,15 @@ PICTURE = ROOT / "docs/map.svg"
 
 UNDER_ALL = "days integers entries text words input output".split()
 READS = "values page question span_line date_lines".split()
-RECKONS = "civil iso saka longitudes panchanga planets older_motions arms records query search reasons zodiac".split()
-PRINTS = "dated sheet month_sheet plate messages drift_sheet catalogue explanation sign_sheet reply conversion".split()
+RECKONS = "civil iso saka longitudes panchanga planets older_motions arms records query search lunar_months reasons zodiac".split()
+PRINTS = "dated sheet month_sheet plate messages drift_sheet catalogue explanation lunar_month_sheet sign_sheet reply conversion".split()
 # Who, what is asked and answered, and the programs: for the operator calls from C, so numbers and no text.
 LANES = [
     ("the reader", "which days, and why not that one", "find why"),
     ("the operator", "a planet table, from C", "host"),
     ("the almanac desk", "a day, and thirty at one go", "day_sheet month"),
     ("calendar printers", "when the Sun enters a sign", "signs"),
+    ("who leafs", "the lunar month of a day", "lunar_month"),
     ("engravers", "a plate with thirds", "engraving"),
     ("the scholar", "how far from older books", "drift"),
     ("libraries", "ISO dates to days and back", "dates_to_days days_to_dates"),
