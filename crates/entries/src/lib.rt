@@ -2,7 +2,7 @@
 use days::NumberAnswer;
 ghost use mathlib.Core.Path.{_≡_};
 ghost use Prim.Native.Nat.{_<_};
-ghost use Rattle.entries.specs.Entries.{withEntry, entryAt};
+ghost use Rattle.entries.specs.Entries.{withEntry, entryDay, entryAt};
 
 pub const ENTRY_BYTES: usize = 4;
 
@@ -10,6 +10,15 @@ fn wide(byte: u8) -> u32
     ensures { λ r. ⌜ (r ≡ byte) × (r < 256) ⌝ }
 {
     byte as u32
+}
+
+// The day of an entry's four bytes.
+pub fn day_of(bytes: [u8; ENTRY_BYTES]) -> u32
+    ensures { λ r. ⌜ r ≡ entryDay bytes 0 ⌝ }
+{
+    let low = wide(bytes[0]) + 256 * wide(bytes[1]);
+    let high = wide(bytes[2]) + 256 * wide(bytes[3]);
+    low + 65536 * high
 }
 
 // The day of an entry.
@@ -20,10 +29,12 @@ pub fn entry_at(list: &[u8], index: usize) -> NumberAnswer
         return NumberAnswer::OUT_OF_RANGE;
     }
     let at = ENTRY_BYTES * index;
-    let low = wide(list[at]) + 256 * wide(list[at + 1]);
-    let high = wide(list[at + 2]) + 256 * wide(list[at + 3]);
-    let number = low + 65536 * high;
-    NumberAnswer::accepted(number)
+    let a = list[at];
+    let b = list[at + 1];
+    let c = list[at + 2];
+    let d = list[at + 3];
+    let day = day_of([a, b, c, d]);
+    NumberAnswer::accepted(day)
 }
 
 // Puts a day's entry at an index; a list that has no such entry stays as it was.

@@ -123,16 +123,21 @@ fn last_entry(list: &[u8], starts: usize, day: u32) -> MonthAt
     requires { ⌜ starts ≤ capacity (now list) ⌝ }
     ensures { λ r. ⌜ r ≡ lastEntry (now (list .entry)) day starts ⌝ }
 {
-    let mut left = starts;
-    while 0 < left {
-        let entry = entries::entry_at(list, left - 1);
-        if entry.number <= day {
+    let mut rest = ENTRY_BYTES * starts;
+    while 0 < rest {
+        let at = rest - ENTRY_BYTES;
+        let a = list[at];
+        let b = list[at + 1];
+        let c = list[at + 2];
+        let d = list[at + 3];
+        let start = entries::day_of([a, b, c, d]);
+        if start <= day {
             return MonthAt::Start {
-                day: entry.number,
-                number: left,
+                day: start,
+                number: rest / ENTRY_BYTES,
             };
         }
-        left -= 1;
+        rest = at;
     }
     MonthAt::NoStart
 }

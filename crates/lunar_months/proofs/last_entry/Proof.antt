@@ -1,50 +1,69 @@
--- `last_entry` meets its contract. The invariant: what is left gives what is meant; the measure is the entries left.
+-- `last_entry` meets its contract. The loop's invariant is `Looking`; the measure is the bytes left.
 use borrow.Author.Needs.{needs}
-use mathlib.Core.Path.{_≡_, sym, _∙_}
-use Prim.Native.Nat.{_≤_}
+use mathlib.Core.Path.{_∙_}
 use native.Mathlib.Omega.{arith}
-use Rattle.lunar_months.specs.Rows.{lastEntry}
-use Rattle.lunar_months.proofs.Latest.{entry-read, entry-here, entry-after, no-entry}
+use Rattle.lunar_months.proofs.Latest.{Looking, looking-start, looking-here, looking-on, looking-end, entry-bytes}
 use Rattle.lunar_months.proofs.last_entry.Statement.{statement}
 use Rattle.lunar_months.proofs.last_entry.Tie as tie
 
 abbrev Inv-loop : tie.InvT-loop
-Inv-loop list starts day left₀ left = (left ≤ starts) × (lastEntry list day left ≡ lastEntry list day starts)
+Inv-loop list starts day rest₀ rest = Looking list starts day rest
 
 abbrev μ-loop : tie.MeasureT-loop
-μ-loop list starts day left₀ left = left
+μ-loop list starts day rest₀ rest = rest
+
+mul-rest : tie.Need-mul-rest Inv-loop μ-loop
+mul-rest c = search needs
 
 loop-holds : tie.Need-loop-holds Inv-loop μ-loop
-loop-holds c = search needs
+loop-holds c = looking-start _ _ _
 
-sub-entry-at : tie.Need-sub-entry-at Inv-loop μ-loop
-sub-entry-at c = search needs
+sub-at : tie.Need-sub-at Inv-loop μ-loop
+sub-at c = search needs
 
-entry-at-requires : tie.Need-entry-at-requires Inv-loop μ-loop
-entry-at-requires c κs = search needs
+shared-slice-read-a : tie.Need-shared-slice-read-a Inv-loop μ-loop
+shared-slice-read-a c = search needs
+
+add-b : tie.Need-add-b Inv-loop μ-loop
+add-b c = search needs
+
+shared-slice-read-b : tie.Need-shared-slice-read-b Inv-loop μ-loop
+shared-slice-read-b c = search needs
+
+add-c : tie.Need-add-c Inv-loop μ-loop
+add-c c = search needs
+
+shared-slice-read-c : tie.Need-shared-slice-read-c Inv-loop μ-loop
+shared-slice-read-c c = search needs
+
+add-d : tie.Need-add-d Inv-loop μ-loop
+add-d c = search needs
+
+shared-slice-read-d : tie.Need-shared-slice-read-d Inv-loop μ-loop
+shared-slice-read-d c = search needs
+
+day-of-requires : tie.Need-day-of-requires Inv-loop μ-loop
+day-of-requires c κs = search needs
 
 returns : tie.Need-returns Inv-loop μ-loop
 returns c =
-    let at = c .before .before .before .before .loop in
-    let more = c .before .before .before .loop-test .taken in
-    let day = entry-read _ _ (omega (arith, at .inv .0)) (c .before .before .entry-at .ensures) in
-    rw day (sym (entry-here _ _ _ more (omega (arith, day, c .if1 .taken))) ∙ at .inv .1)
-
-sub-left : tie.Need-sub-left Inv-loop μ-loop
-sub-left c = search needs
+    let at = c .before .before .before .before .before .before in
+    let inv = at .before .loop .inv in
+    let start = c .before .day-of .ensures ∙ entry-bytes _ _ (at .loop-test .taken) (inv .whole) in
+    looking-here _ _ _ _ inv (at .loop-test .taken) _ start (c .if1 .taken)
 
 loop-less : tie.Need-loop-less Inv-loop μ-loop
 loop-less c = search needs
 
 loop-again : tie.Need-loop-again Inv-loop μ-loop
 loop-again c =
-    let at = c .before .before .before .before .loop in
-    let more = c .before .before .before .loop-test .taken in
-    let day = entry-read _ _ (omega (arith, at .inv .0)) (c .before .before .entry-at .ensures) in
-    (omega (arith, at .inv .0), sym (entry-after _ _ _ more (omega (arith, day, c .if1 .left))) ∙ at .inv .1)
+    let at = c .before .before .before .before .before .before in
+    let inv = at .before .loop .inv in
+    let start = c .before .day-of .ensures ∙ entry-bytes _ _ (at .loop-test .taken) (inv .whole) in
+    looking-on _ _ _ _ inv (at .loop-test .taken) _ start (c .if1 .left)
 
 returns-2 : tie.Need-returns-2 Inv-loop μ-loop
-returns-2 c = sym (no-entry _ _ _ (c .loop-test .left)) ∙ c .before .loop .inv .1
+returns-2 c = looking-end _ _ _ _ (c .before .loop .inv) (c .loop-test .left)
 
 pub last-entry-spec : {M : Type 1} → statement M
 last-entry-spec =
@@ -52,11 +71,18 @@ last-entry-spec =
     (tie.spec
     Inv-loop
     μ-loop
+    mul-rest
     loop-holds
-    sub-entry-at
-    entry-at-requires
+    sub-at
+    shared-slice-read-a
+    add-b
+    shared-slice-read-b
+    add-c
+    shared-slice-read-c
+    add-d
+    shared-slice-read-d
+    day-of-requires
     returns
-    sub-left
     loop-less
     loop-again
     returns-2)
