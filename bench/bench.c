@@ -110,6 +110,14 @@ static void plain_to_days(uint32_t unused, size_t len) { (void)unused, sink += p
 static void to_dates(uint32_t unused, size_t len) { (void)unused, sink += bridge_list_to_dates(list, 4 * LINES, dates, len); }
 static void plain_to_dates(uint32_t unused, size_t len) { (void)unused, sink += plain_list_to_dates(list, 4 * LINES, other_dates, len); }
 
+/* The almanac file of the whole span, written, and read into a list with an entry for each day. */
+enum { ALMANAC = (DAYS + 8) / 9 * 512 };
+static uint8_t almanac[ALMANAC], other_almanac[ALMANAC];
+static void almanac_written(uint32_t unused, size_t len) { (void)unused, sink += graha_almanac_write(0, DAYS - 1, almanac, len); }
+static void plain_almanac_written(uint32_t unused, size_t len) { (void)unused, sink += plain_almanac_write(0, DAYS - 1, other_almanac, len); }
+static void almanac_taken(uint32_t unused, size_t len) { (void)unused, sink += graha_almanac_read(almanac, len, list, ROOM); }
+static void plain_almanac_taken(uint32_t unused, size_t len) { (void)unused, sink += plain_almanac_read(other_almanac, len, other, ROOM); }
+
 /* An angle or a rate of each body on each day. */
 typedef double (*degrees)(uint32_t, uint32_t);
 
@@ -178,6 +186,12 @@ static void *places(void *unused) {
             graha_true_mercury(7) + graha_true_jupiter(7) + graha_true_venus(7) + graha_true_saturn(7) + graha_tithi(7) + graha_nakshatra(7) + graha_yoga(7) + graha_karana(7);
     return unused;
 }
+static void *almanacs(void *unused) {
+    almanac_written(0, ALMANAC);
+    almanac_taken(0, ALMANAC);
+    sink += graha_almanac_bytes(0, DAYS - 1) + graha_almanac_block(0, DAYS - 1, 7, almanac, 512) + graha_almanac_days(almanac, ALMANAC);
+    return unused;
+}
 static void *orders(void *unused) {
     sink += graha_place_result(7, 5) + graha_place_order(7, 5) + graha_follow_result(7, 5) + graha_follow_order(7, 5) +
             (uint64_t)(graha_place_angle(7, 5) + graha_follow_rate(7, 5));
@@ -222,8 +236,9 @@ int main(int count, char **word) {
         return 0;
     }
     if (count == 2 && !strcmp(word[1], "stack")) {
-        size_t base = depth(nothing), a = depth(search_all) - base, b = depth(places) - base, c = depth(calendar) - base, d = depth(orders) - base;
-        printf("deepest stack: search %zu, places %zu, calendar %zu, orders %zu bytes (at most 2048)\n", a, b, c, d);
+        size_t base = depth(nothing), a = depth(search_all) - base, b = depth(places) - base, c = depth(calendar) - base, d = depth(orders) - base,
+               e = depth(almanacs) - base;
+        printf("deepest stack: search %zu, places %zu, calendar %zu, orders %zu, almanacs %zu bytes (at most 2048)\n", a, b, c, d, e);
         return 0;
     }
     printf("%-46s %15s %15s %8s   %s\n", "whole span, Mondays", "proved", "plain C", "ratio", "to reach");
@@ -288,6 +303,12 @@ int main(int count, char **word) {
     pair("4,096 dates to days", search_job(to_days, 0, 4 * LINES), search_job(plain_to_days, 0, 4 * LINES), 1.1);
     if (memcmp(dates, other_dates, sizeof dates) || memcmp(list, other, 4 * LINES)) {
         puts("the two lists of dates differ");
+        return 1;
+    }
+    pair("an almanac of all days, written", search_job(almanac_written, 0, ALMANAC), search_job(plain_almanac_written, 0, ALMANAC), 1.1);
+    pair("an almanac of all days, read", search_job(almanac_taken, 0, ALMANAC), search_job(plain_almanac_taken, 0, ALMANAC), 1.1);
+    if (graha_almanac_days(almanac, ALMANAC) != DAYS || memcmp(almanac, other_almanac, ALMANAC) || memcmp(list, other, 4 * DAYS)) {
+        puts("the two almanacs differ");
         return 1;
     }
     pair("nine arms placed", search_job(angles, 0, 0), search_job(angles, 1, 0), 1.1);

@@ -396,3 +396,73 @@ uint64_t plain_list_to_dates(const uint8_t *list, size_t list_len, uint8_t *text
     }
     return 11 * entries;
 }
+
+static inline void put32(uint8_t *at, uint32_t n) {
+    at[0] = (uint8_t)n;
+    at[1] = (uint8_t)(n >> 8);
+    at[2] = (uint8_t)(n >> 16);
+    at[3] = (uint8_t)(n >> 24);
+}
+
+static inline uint32_t get32(const uint8_t *at) { return at[0] | (uint32_t)at[1] << 8 | (uint32_t)at[2] << 16 | (uint32_t)at[3] << 24; }
+
+/* The thirteen numbers of a day's place; the last is the four limbs. */
+static inline void place_of(uint32_t day, uint32_t *to) {
+    to[0] = day;
+    for (uint32_t body = 0; body < 9; body++) to[1 + body] = body_mean(body, day);
+    uint32_t s = true_sun(day), m = true_moon(day);
+    to[10] = s;
+    to[11] = m;
+    to[12] = past(m, s) / 43200 | (m / 48000) << 8 | ((s + m) % CIRCLE / 48000) << 16 | karana_of(past(m, s) / 21600) << 24;
+}
+
+static inline uint32_t block_sum(const uint8_t *block) {
+    uint32_t sum = 0;
+    for (uint32_t i = 0; i < 508; i++) sum += block[i] * (i + 1);
+    return sum;
+}
+
+uint32_t plain_almanac_write(uint32_t first, uint32_t last, uint8_t *file, uint64_t file_len) {
+    if (first > LAST || last > LAST) return 2;
+    if (last < first) return 5;
+    uint32_t count = last - first + 1, blocks = (count + 8) / 9;
+    if (file_len < 512ull * blocks) return 7;
+    for (uint32_t index = 0; index < blocks; index++) {
+        uint8_t *block = file + 512ull * index, *at = block + 8;
+        put32(block, index);
+        put32(block + 4, count);
+        for (uint32_t j = 9 * index; j < count && j < 9 * index + 9; j++) {
+            uint32_t place[13];
+            place_of(first + j, place);
+            for (int i = 0; i < 13; i++, at += 4) put32(at, place[i]);
+        }
+        while (at < block + 508) *at++ = 0;
+        put32(block + 508, block_sum(block));
+    }
+    return 0;
+}
+
+uint32_t plain_almanac_read(const uint8_t *file, uint64_t file_len, uint8_t *list, uint64_t list_len) {
+    if (file_len < 512) return 9;
+    uint32_t count = get32(file + 4), first = get32(file + 8);
+    if (file_len != 512 * (((uint64_t)count + 8) / 9)) return 9;
+    uint64_t day = first;
+    for (uint32_t index = 0; index < file_len / 512; index++) {
+        const uint8_t *block = file + 512ull * index, *at = block + 8;
+        if (get32(block + 508) != block_sum(block)) return 10;
+        if (get32(block) != index || get32(block + 4) != count) return 11;
+        uint32_t days = count - 9 * index < 9 ? count - 9 * index : 9;
+        for (const uint8_t *zero = at + 52 * days; zero < block + 508; zero++)
+            if (*zero) return 12;
+        for (uint32_t j = 0; j < days; j++, day++) {
+            uint32_t place[13];
+            if (day > LAST) return 13;
+            place_of((uint32_t)day, place);
+            for (int i = 0; i < 13; i++, at += 4)
+                if (get32(at) != place[i]) return 13;
+        }
+    }
+    if (list_len / 4 < count) return 7;
+    for (uint32_t i = 0; i < count; i++) put32(list + 4ull * i, first + i);
+    return 0;
+}

@@ -63,6 +63,11 @@ uint64_t plain_list_to_dates(const uint8_t *list, size_t list_len, uint8_t *text
 uint32_t plain_months_extend(uint32_t turns, uint32_t covered, uint32_t days, uint8_t *list, size_t len);
 uint32_t plain_month_number(uint32_t turns, uint32_t covered, uint32_t day, const uint8_t *list, size_t len);
 
+/* An almanac file of the span, 512 bytes for each nine days, and what is read of one: the refusal, and the days in the
+ * list. */
+uint32_t plain_almanac_write(uint32_t first, uint32_t last, uint8_t *file, uint64_t file_len);
+uint32_t plain_almanac_read(const uint8_t *file, uint64_t file_len, uint8_t *list, uint64_t list_len);
+
 /* Tests every day of the span. */
 plain_found plain_every_day(uint32_t first, uint32_t last, uint32_t start, uint32_t width, uint32_t weekday, uint8_t *list, size_t len);
 #endif

@@ -1,8 +1,9 @@
 /* A small host program: it dates a day, prints its places, sets the nine arms of a planet table, drives nine for three
- * days, dates a Saka lunar date, looks for the Mondays with the Sun in the first degree, and leafs through a year by
- * lunar month. */
+ * days, dates a Saka lunar date, looks for the Mondays with the Sun in the first degree, leafs through a year by lunar
+ * month, and writes an almanac and reads it back. */
 #include <stdio.h>
 #include <stdlib.h>
+#include <string.h>
 
 #include "grahalaghava.h"
 
@@ -146,6 +147,31 @@ static uint32_t search(uint8_t *list, size_t list_len)
     return graha_search(FIRST, LAST, SUN_START, SUN_WIDTH, WEEKDAY, list, list_len);
 }
 
+/* An almanac of twenty days in three blocks, written, read back, and refused where one byte has come over wrong. */
+static int exchange_almanac(uint32_t first)
+{
+    enum { DAYS = 20, BLOCKS = 3, BLOCK = 512 };
+    uint8_t file[BLOCKS * BLOCK], days[4 * DAYS];
+    uint32_t bytes = graha_almanac_bytes(first, first + DAYS - 1);
+    uint32_t written = graha_almanac_write(first, first + DAYS - 1, file, sizeof file);
+    printf("an almanac of %d days: %u bytes, result %u\n", DAYS, (unsigned)bytes, (unsigned)written);
+    if (written != GRAHA_ACCEPTED) return 0;
+    uint32_t read = graha_almanac_read(file, bytes, days, sizeof days);
+    printf("read back: result %u, %u days; the first and the last:\n", (unsigned)read, (unsigned)graha_almanac_days(file, bytes));
+    if (read != GRAHA_ACCEPTED) return 0;
+    print_date(day_at(days, 0));
+    print_date(day_at(days, DAYS - 1));
+    file[BLOCK + 100] ^= 1;
+    printf("with a byte changed: result %u\n", (unsigned)graha_almanac_read(file, bytes, days, sizeof days));
+
+    /* A controller has room for one block, and asks for the second once more. */
+    uint8_t block[BLOCK];
+    if (graha_almanac_block(first, first + DAYS - 1, 1, block, sizeof block) != GRAHA_ACCEPTED) return 0;
+    memcpy(file + BLOCK, block, BLOCK);
+    printf("with its second block sent again: result %u\n", (unsigned)graha_almanac_read(file, bytes, days, sizeof days));
+    return 1;
+}
+
 int main(void)
 {
     uint32_t result = graha_date_result(1612, 5, 14);
@@ -205,5 +231,6 @@ int main(void)
     if (result != GRAHA_ACCEPTED) return 1;
 
     printf("the lunar months of the year:\n");
-    return leaf(day) == GRAHA_ACCEPTED ? 0 : 1;
+    if (leaf(day) != GRAHA_ACCEPTED) return 1;
+    return exchange_almanac(day) ? 0 : 1;
 }

@@ -27,8 +27,13 @@ enum {
     GRAHA_NO_SUCH_WEEKDAY = 4,   /* none of a Saka date's three days has the weekday */
     GRAHA_LAST_BEFORE_FIRST = 5, /* a span whose last day is before its first */
     GRAHA_BAD_CONDITION = 6,     /* a search's weekday, arc start or arc width */
-    GRAHA_LIST_TOO_SHORT = 7,    /* more days than the list has entries */
+    GRAHA_LIST_TOO_SHORT = 7,    /* more days than the list has entries, or more bytes than were lent */
     GRAHA_NO_EXTRA_MONTH = 8,    /* a Saka date's extra month is still to come, and none is reckoned */
+    GRAHA_BAD_LENGTH = 9,        /* an almanac file of less than a block, or of another length than its first block demands */
+    GRAHA_BAD_CHECKSUM = 10,     /* its first bad block: the checksum does not hold */
+    GRAHA_BAD_INDEX = 11,        /* the block's index, or its number of days in the file */
+    GRAHA_NOT_ZERO = 12,         /* a byte that should be zero */
+    GRAHA_BAD_DAY = 13,          /* a day that is not the one after, or is none, or whose numbers are not its own */
     GRAHA_NO_SUCH_BODY = 16      /* a body above 8, of an order */
 };
 
@@ -173,6 +178,27 @@ uint32_t graha_months_extended_turns(uint32_t turns, uint32_t covered, uint32_t 
 uint32_t graha_month_result(uint32_t turns, uint32_t covered, uint32_t day, const uint8_t *list, uint64_t list_len);
 uint32_t graha_month_start(uint32_t turns, uint32_t covered, uint32_t day, const uint8_t *list, uint64_t list_len);
 uint32_t graha_month_number(uint32_t turns, uint32_t covered, uint32_t day, const uint8_t *list, uint64_t list_len);
+
+/* Almanac files: the days from first to last, both counted, in blocks of 512 bytes, up to nine days a block
+ * (docs/almanac.md has the layout).
+ * How many bytes the file of a span has: 512 for every nine days, and for what is left; 0 for a span that is
+ * refused. */
+uint32_t graha_almanac_bytes(uint32_t first, uint32_t last);
+/* Writes the file. With result 0 it stands at the front of the bytes, and those behind it are as they were; with any
+ * other result all are as they were.
+ * Result 2: first or last above 401599; 5: last before first; 7: fewer bytes than graha_almanac_bytes. */
+uint32_t graha_almanac_write(uint32_t first, uint32_t last, uint8_t *file, uint64_t file_len);
+/* Writes one block of it, index from 0, likewise. Result 2: first or last above 401599, or an index behind the last
+ * block; 5: last before first; 7: fewer than 512 bytes. */
+uint32_t graha_almanac_block(uint32_t first, uint32_t last, uint32_t index, uint8_t *block, uint64_t block_len);
+/* Reads a file. With result 0 its days stand in the list, as in the search; with any other result the whole list is as
+ * it was, so that a file gives all its days or none.
+ * Result 9: less than a block, or another length than its first block's number of days demands; by its first bad block
+ * 10: the checksum; 11: the index, or the number of days; 12: a byte that should be zero; 13: a day that is not the one
+ * after, or is none, or whose numbers are not its own; 7: more days than list_len / 4. */
+uint32_t graha_almanac_read(const uint8_t *file, uint64_t file_len, uint8_t *list, uint64_t list_len);
+/* How many days the file has, however long a list: for results 0 and 7, else 0. */
+uint32_t graha_almanac_days(const uint8_t *file, uint64_t file_len);
 
 #ifdef __cplusplus
 }

@@ -1,9 +1,10 @@
 // The general search, the look, the reason why a day is not listed, the catalogue's pieces, the mean longitudes, the
 // elements, the five planets, records filled at one go, the drifts from the older books, ISO dates and lines of days,
-// and rows of month starts as C calls, for comparison runs and not for hosts: a query comes as 260 bytes, 65 numbers of
-// four, low byte first.
+// rows of month starts, and almanac files read block by block as C calls, for comparison runs and not for hosts: a
+// query comes as 260 bytes, 65 numbers of four, low byte first.
 // They are the first and the last day; for weekdays, tithi, nakshatra and yoga: given (0 no, any other number yes) and
 // set or value; for each body its first arc: given, start and width; the edition; and for each body its second arc.
+mod blocks;
 mod bodies;
 mod drifts;
 mod elements;

@@ -30,6 +30,25 @@ listTooShort = 7
 abbrev pub noExtraMonth : ℕ
 noExtraMonth = 8
 
+-- of an almanac file: less than a block, or another length than its first block's count demands
+abbrev pub badLength : ℕ
+badLength = 9
+
+-- of the first bad block of such a file, in this order: its checksum, its index or the count of days
+abbrev pub badChecksum : ℕ
+badChecksum = 10
+
+abbrev pub badIndex : ℕ
+badIndex = 11
+
+-- a byte that should be zero
+abbrev pub notZero : ℕ
+notZero = 12
+
+-- a day that is not the one after, or whose fields are not its own
+abbrev pub badDay : ℕ
+badDay = 13
+
 -- an edition other than 1 or 2
 abbrev pub badEdition : ℕ
 badEdition = 14

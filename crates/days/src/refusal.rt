@@ -17,6 +17,16 @@ pub const LIST_TOO_SHORT: u32 = 7;
 
 pub const NO_EXTRA_MONTH: u32 = 8;
 
+pub const BAD_LENGTH: u32 = 9;
+
+pub const BAD_CHECKSUM: u32 = 10;
+
+pub const BAD_INDEX: u32 = 11;
+
+pub const NOT_ZERO: u32 = 12;
+
+pub const BAD_DAY: u32 = 13;
+
 pub const BAD_EDITION: u32 = 14;
 
 pub const BAD_LINE: u32 = 15;

@@ -104,7 +104,7 @@ later d l k =
     let h : 4 * suc k + 3 ≡ suc (suc (suc (suc (4 * k + 3)))) = omega arith in
     rw (o, t, h, z)
 
-read-entry : (ds l : List ℕ) (k : ℕ) → k < length ds → getD ds k 0 < 4294967296 → entryDay (entries ds ++ l) k ≡ getD ds k 0
+pub read-entry : (ds l : List ℕ) (k : ℕ) → k < length ds → getD ds k 0 < 4294967296 → entryDay (entries ds ++ l) k ≡ getD ds k 0
 unfolding entries
 read-entry [] l k h s = absurd (omega arith)
 read-entry (d ∷ ds) l zero h s = unfold entryDay entry in four-bytes d s

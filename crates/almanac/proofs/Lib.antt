@@ -1,0 +1,5 @@
+pub mod Through
+pub mod Writing
+pub mod Answers
+pub mod Laws
+pub mod Worked

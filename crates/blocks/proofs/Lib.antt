@@ -1,0 +1,5 @@
+pub mod Steps
+pub mod Numbers
+pub mod Laying
+pub mod Answers
+pub mod Laws
