@@ -1,8 +1,8 @@
 //! The calls of the two static archives: `host`, the museum's C calls, and `bridge`, a test library
 //! that reaches the search, the look and the reasons with every condition and edition, the text that
 //! `find` prints, a day's elements in an edition, a mean place with its left-over and divisor, the star
-//! planets together, rows of records, the dates that libraries write, and rows of month turns in an
-//! edition. A number of a refused call is 0, but with 7.
+//! planets together, rows of records, the dates that libraries write, rows of month turns in an
+//! edition, and almanac files block by block. A number of a refused call is 0, but with 7.
 
 use crate::reference::records::Record;
 
@@ -141,6 +141,24 @@ unsafe extern "C" {
         list_len: usize,
     ) -> u32;
 
+    /// Almanac files. File, block and list are lent for the call.
+    pub safe fn graha_almanac_bytes(first: u32, last: u32) -> u32;
+    pub fn graha_almanac_write(first: u32, last: u32, file: *mut u8, file_len: usize) -> u32;
+    pub fn graha_almanac_block(
+        first: u32,
+        last: u32,
+        index: u32,
+        block: *mut u8,
+        block_len: usize,
+    ) -> u32;
+    pub fn graha_almanac_read(
+        file: *const u8,
+        file_len: usize,
+        list: *mut u8,
+        list_len: usize,
+    ) -> u32;
+    pub fn graha_almanac_days(file: *const u8, file_len: usize) -> u32;
+
     /// Orders for the arms: to go (1) to an angle, and to run (2) at a rate or to hold (0).
     pub safe fn graha_place_result(day: u32, body: u32) -> u32;
     pub safe fn graha_place_order(day: u32, body: u32) -> u32;
@@ -231,6 +249,15 @@ unsafe extern "C" {
         list: *const u8,
         list_len: usize,
     ) -> u32;
+
+    /// An almanac file into a list, a block at a time. The upper half of the number is the refusal, and the
+    /// lower half the number of days told.
+    pub fn bridge_almanac_read_blocks(
+        file: *const u8,
+        file_len: usize,
+        list: *mut u8,
+        list_len: usize,
+    ) -> u64;
 
     /// A body above 8 is refused with 16, on numbers that are no days too.
     pub safe fn bridge_longitude_result(body: u32, day: u32) -> u32;

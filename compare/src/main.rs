@@ -58,6 +58,9 @@ fn main() {
     checks.part("lunar months", |checks| {
         runs::month_starts::run(checks, &almanac)
     });
+    checks.part("almanac files", |checks| {
+        runs::almanac_file::run(checks, &almanac)
+    });
     checks.part("entries into signs", |checks| {
         runs::signs::run(checks, &almanac)
     });
@@ -77,6 +80,9 @@ fn main() {
         runs::engraving::run(checks, &almanac)
     });
     checks.part("months", |checks| runs::month::run(checks, &almanac));
+    checks.part("almanacs written and read", |checks| {
+        runs::almanac_programs::run(checks, &almanac)
+    });
     checks.part("pages", |checks| runs::find::run(checks, &almanac));
     checks.part("days and pages", |checks| runs::why::run(checks, &almanac));
     println!("compare: {} checks, 0 differences", checks.total());

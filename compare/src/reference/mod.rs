@@ -1,13 +1,15 @@
-//! The rules of paper 01, and of paper 02's L1 to L5 and L8 to L14, each written a second time and by
+//! The rules of paper 01, and of paper 02's L1 to L5 and L7 to L14, each written a second time and by
 //! another method than the proved crates: exact fractions with one floor, dates by walking the calendar
 //! day by day, searches, entries into signs, month turns and drifts that test every day of their span,
-//! reasons from a list of all conditions, and floats made of whole numbers. Each function cites the
-//! paper's heading that it follows; the page of `find` and what it prints, which the papers leave open,
-//! are described in `page` and `catalogue`, what `engraving` prints in `plate`, what `month` prints in
-//! `month`, what `why` reads and prints in `why`, what `lunar_month` does in `month_starts`, and what
-//! `signs` and `drift` read in `span`, and print in `signs` and `drift`.
+//! reasons from a list of all conditions, files read by writing them anew, and floats made of whole
+//! numbers. Each function cites the paper's heading that it follows; the page of `find` and what it
+//! prints, which the papers leave open, are described in `page` and `catalogue`, what `engraving`
+//! prints in `plate`, what `month` prints in `month`, what `why` reads and prints in `why`, what
+//! `lunar_month` does in `month_starts`, and what `signs` and `drift` read in `span`, and print in
+//! `signs` and `drift`.
 
 pub mod almanac;
+pub mod almanac_file;
 pub mod arms;
 pub mod catalogue;
 pub mod civil;

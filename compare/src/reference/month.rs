@@ -11,14 +11,20 @@ use super::sheet::number_in;
 /// "Thirty days in one call."
 pub const DAYS: u32 = 30;
 
+pub fn heading() -> String {
+    FIELDS.join(" ") + "\n"
+}
+
+/// The line of a day; 2 for a number that is no day.
+pub fn line(almanac: &Almanac, number: u32) -> Answer<String> {
+    let numbers = record(almanac, Edition::First, number)?;
+    Ok(numbers.map(|number| number.to_string()).join(" ") + "\n")
+}
+
 fn lines(almanac: &Almanac, first: u32) -> Answer<String> {
-    let mut text = FIELDS.join(" ") + "\n";
-    for number in first..first + DAYS {
-        let numbers = record(almanac, Edition::First, number)?;
-        text += &numbers.map(|number| number.to_string()).join(" ");
-        text += "\n";
-    }
-    Ok(text)
+    let days = first..first + DAYS;
+    let lines: Answer<String> = days.map(|number| line(almanac, number)).collect();
+    Ok(heading() + &lines?)
 }
 
 /// All that the program prints for an input.

@@ -9,6 +9,12 @@ pub const BAD_CONDITION: u32 = 6;
 pub const LIST_TOO_SHORT: u32 = 7;
 /// L4.
 pub const NO_EXTRA_MONTH: u32 = 8;
+/// L7.
+pub const BAD_LENGTH: u32 = 9;
+pub const BAD_CHECK: u32 = 10;
+pub const BAD_INDEX: u32 = 11;
+pub const BAD_BYTE: u32 = 12;
+pub const BAD_DAY: u32 = 13;
 /// L8.
 pub const NO_SUCH_EDITION: u32 = 14;
 /// L11.

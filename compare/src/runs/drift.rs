@@ -184,7 +184,7 @@ fn random_spans(checks: &mut Checks, distances: &Distances) {
 fn program(checks: &mut Checks, almanac: &Almanac, distances: &Distances) {
     let drift = Program {
         path: "target/bin/drift",
-        printed: &|input| distances.printed(almanac, input),
+        printed: &|input| distances.printed(almanac, input).into_bytes(),
     };
     let mut spans = vec![(0, 0), (1, 1), (0, LAST_DAY), (1, LAST_DAY - 1)];
     spans.extend((0..19).map(|power| (0, 1 << power)));

@@ -1,5 +1,7 @@
 //! The comparisons, a file for each part.
 
+pub mod almanac_file;
+pub mod almanac_programs;
 pub mod arms;
 pub mod civil;
 pub mod day_input;

@@ -8,9 +8,10 @@ use std::time::Duration;
 use crate::checks::Checks;
 use crate::reference::page::{Complaint, Printed};
 
-/// What a program wrote. A byte that isn't text is replaced, and so differs from all that is
+/// What a program wrote. In text a byte that is none is replaced, and so differs from all that is
 /// expected.
 pub struct Written {
+    pub bytes: Vec<u8>,
     pub output: String,
     pub error: String,
 }
@@ -53,6 +54,7 @@ pub fn run(
     Written {
         output: text(&output.stdout),
         error: text(&output.stderr),
+        bytes: output.stdout,
     }
 }
 

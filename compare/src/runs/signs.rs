@@ -185,7 +185,7 @@ fn random_spans(checks: &mut Checks, almanac: &Almanac) {
 fn program(checks: &mut Checks, almanac: &Almanac) {
     let signs = Program {
         path: "target/bin/signs",
-        printed: &|input| printed(almanac, input),
+        printed: &|input| printed(almanac, input).into_bytes(),
     };
     let spans = [
         (0, 10),

@@ -16,7 +16,7 @@ use super::queries::{random_span, Span};
 /// A program, and what it has to print for an input.
 pub struct Program<'a> {
     pub path: &'static str,
-    pub printed: &'a dyn Fn(&[u8]) -> String,
+    pub printed: &'a dyn Fn(&[u8]) -> Vec<u8>,
 }
 
 /// Lines without their newline that are accepted: blanks and a comment may stand about the two days.
@@ -97,8 +97,11 @@ impl Program<'_> {
         let expected = (self.printed)(&input);
         let input = || format!("{}, in {} pieces", shown(&input), pieces.len());
         let written = programs::run(checks, self.path, input, pieces);
-        checks.same_lines(self.path, input, &expected, &written.output);
-        if !expected.starts_with("refused ") {
+        match std::str::from_utf8(&expected) {
+            Ok(lines) => checks.same_lines(self.path, input, lines, &written.output),
+            Err(_) => checks.same_bytes(self.path, input, &expected, &written.bytes),
+        }
+        if !expected.starts_with(b"refused ") {
             checks.same("its standard error", input, String::new(), written.error);
         }
     }
