@@ -192,7 +192,7 @@ days-fit f w =
     let h = held-days (take 512 (drop (512 * last) f)) 0 (first + 9 * last) (daysIn count last) (s .held) (omega (arith, w .long, w .length-is)) in
     omega (arith, h, w .long, w .length-is)
 
-days-long : (n m : ℕ) → length (daysFrom n m) ≡ m
+pub days-long : (n m : ℕ) → length (daysFrom n m) ≡ m
 unfolding daysFrom
 days-long n zero = refl
 days-long n (suc m) = ap suc (days-long (suc n) m)

@@ -1,7 +1,13 @@
 // Reads an almanac file from standard input, of any length, and prints its days as a month's sheet has them.
 use almanac::Reader;
+use almanac::Reading;
 use blocks::BLOCK_BYTES;
 use days::refusal;
+use output::Written;
+use text::PIECE;
+ghost use Rattle.output.specs.Output.{AllWritten};
+ghost use Rattle.text.specs.Sheets.{Between};
+ghost use Rattle.almanac_sheet.specs.AlmanacSheets.{readingLines};
 
 // More blocks than any count demands.
 const MOST_BLOCKS: u32 = 477218590;
@@ -28,20 +34,52 @@ fn read_blocks() -> Reader {
     reader
 }
 
-// Nothing is printed before the last block is seen.
-fn print_read(reader: Reader) {
-    let reading = reader.ended();
-    let lines = 1 + reading.count as u64;
-    for index in 0..lines {
-        if !output::print(almanac_sheet::line(reading, index)) {
-            return;
+// The only way to print. By what it requires the bytes are the sheet's from one line to before another.
+fn print_between(reading: Reading, from: usize, to: usize, bytes: &[u8]) -> bool
+    requires { ⌜ Between (readingLines reading) from to (now bytes) ⌝ }
+{
+    output::print_bytes(bytes)
+}
+
+// As many lines as fit whole are put into the buffer and printed at once.
+fn print_reading(reading: Reading) -> Written
+    ensures { λ r. ⌜ AllWritten (readingLines reading) r ⌝ }
+{
+    let lines = almanac_sheet::line_count(reading);
+    let mut buffer = [0u8; PIECE];
+    let mut from: usize = 0;
+    let mut bytes: usize = 0;
+    let mut index: usize = 0;
+    while index < lines {
+        let line = almanac_sheet::line(reading, index);
+        let len = line.len;
+        if PIECE - bytes < len {
+            if !print_between(reading, from, index, &buffer[..bytes]) {
+                return Written {
+                    lines: from,
+                    whole: false,
+                };
+            }
+            from = index;
+            bytes = 0;
         }
+        line.put(&mut buffer, bytes);
+        bytes += len;
+        index += 1;
+    }
+    let whole = print_between(reading, from, lines, &buffer[..bytes]);
+    Written { lines, whole }
+}
+
+// Nothing is printed before the last block is seen.
+fn main() {
+    let reader = read_blocks();
+    let reading = reader.ended();
+    let written = print_reading(reading);
+    if !written.whole {
+        return;
     }
     if reading.refusal != refusal::NONE {
         output::say(almanac_sheet::fault(reader.fault_at(), reading.refusal));
     }
-}
-
-fn main() {
-    print_read(read_blocks());
 }

@@ -1,59 +1,87 @@
--- The lines of what was read, case by case; and of a file that is read: a month's heading, a line for each day as a
--- month's sheet has it, and nothing behind them.
--- Assumes nothing.
-use mathlib.Core.Path.{_≡_, refl, sym, ap, _∙_}
-use mathlib.Core.Bool.{Bool, true, false, cond, _&&_}
-use mathlib.Core.List.{List, []}
-use Prim.Native.Nat.{ℕ, suc, _+_, _-_, _≤_, _<_}
+-- The lines of what was read by refusal and index, and how many there are; and of a file that is read: a line for each
+-- day, as a month's sheet has it. Assumes nothing.
+use mathlib.Core.List.{List, [], _∷_, map}
+use mathlib.Core.Path.{_≡_, refl, sym, ap, _∙_, subst}
+use Prim.Native.Nat.{ℕ, zero, suc, _+_, _-_, _≤_, _<_}
 use native.Mathlib.Omega.{arith}
-use lib.Dec.{leb, ltb}
-use borrow.Author.Tests.{eq-eqb, ne-eqb, lt-ltb, le-ltb, le-leb, lt-leb}
-use Rattle.days.specs.Days.{lastDay}
+use lib.ListN.{length, length-map}
+use borrow.Author.Tests.{eq-eqb, ne-eqb, le-leb, lt-leb}
+use Rattle.days.specs.Days.{lastDay, daysFrom}
 use Rattle.almanac.specs.declared.Reading.{Reading}
 use Rattle.almanac.specs.Reading.{theDays, countIn, firstIn, readingOf}
-use Rattle.almanac.proofs.Answers.{Whole, whole, days-fit}
+use Rattle.almanac.proofs.Answers.{Whole, whole, days-fit, days-long}
 use Rattle.month_sheet.specs.MonthSheets.{monthHeading, recordLine}
+use Rattle.panchanga.specs.TrueLongitudes.{firstEdition}
 use Rattle.records.specs.Records.{recordOn}
 use Rattle.text.specs.declared.Line.{Line}
-use Rattle.text.specs.Lines.{emptyLine, withBytes, refusalLine}
-use Rattle.text.proofs.Lines.{with-bytes-none}
-use Rattle.almanac_sheet.specs.AlmanacSheets.{sheetLine}
-
-pub nothing : (l : Line) → l ≡ emptyLine → l ≡ withBytes emptyLine []
-nothing l e = e ∙ sym (with-bytes-none emptyLine)
+use Rattle.text.specs.Lines.{Holds, refusalLine}
+use Rattle.text.specs.Sheets.{lineAt}
+use Rattle.text.proofs.Sheets.{line-first, line-next, line-behind}
+use Rattle.almanac_sheet.specs.AlmanacSheets.{dayLine, readingLines}
 
 -- a line that holds what is meant
-pub meant : (l : Line) (bs cs : List ℕ) → cs ≡ bs → l ≡ withBytes emptyLine bs → l ≡ withBytes emptyLine cs
-meant l bs cs e f = f ∙ ap (withBytes emptyLine) (sym e)
+pub meant : {l : Line} {bs cs : List ℕ} → cs ≡ bs → Holds l bs → Holds l cs
+meant {l} {bs} {cs} e h = subst (Holds l) (sym e) h
 
+-- ---- the line of a day
+pub no-day : (n : ℕ) → lastDay < n → dayLine n ≡ []
+unfolding dayLine
+no-day n h = rw (lt-leb n lastDay h)
+
+pub a-day : (n : ℕ) → n ≤ lastDay → dayLine n ≡ recordLine (recordOn firstEdition n)
+unfolding dayLine
+a-day n h = rw (le-leb n lastDay h)
+
+days-at : (first count k : ℕ) → k < count → lineAt (map dayLine (daysFrom first count)) k ≡ dayLine (first + k)
+unfolding daysFrom
+days-at first zero k h = absurd (omega arith)
+days-at first (suc n) zero h = let here : first + 0 ≡ first = omega arith in rw here (line-first _ _)
+days-at first (suc n) (suc k) h =
+    let next : suc first + k ≡ first + suc k = omega arith in
+    line-next _ _ k ∙ days-at (suc first) n k (omega arith) ∙ ap dayLine next
+
+-- ---- the lines of what was read, how many there are, and which line is meant
 module _ (r : Reading) where
-  pub first-refused : (i : ℕ) → i ≡ 0 → (r .refusal ≡ 0 → ⊥) → sheetLine r i ≡ refusalLine (r .refusal)
-  unfolding sheetLine
-  first-refused i z n = rw (z, ne-eqb (r .refusal) 0 n)
+  refused-lines : (r .refusal ≡ 0 → ⊥) → readingLines r ≡ refusalLine (r .refusal) ∷ []
+  unfolding readingLines
+  refused-lines n = rw (ne-eqb (r .refusal) 0 n)
 
-  pub first-heading : (i : ℕ) → i ≡ 0 → r .refusal ≡ 0 → sheetLine r i ≡ monthHeading
-  unfolding sheetLine
-  first-heading i z e = rw (z, eq-eqb (r .refusal) 0 e)
+  accepted-lines : r .refusal ≡ 0 → readingLines r ≡ monthHeading ∷ map dayLine (daysFrom (r .first) (r .count))
+  unfolding readingLines
+  accepted-lines e = rw (eq-eqb (r .refusal) 0 e)
 
-  by-tests : (k : ℕ) (a b : Bool) → ltb k (r .count) ≡ a → leb (r .first + k) lastDay ≡ b → sheetLine r (suc k) ≡ cond (a && b) (recordLine (recordOn 1 (r .first + k))) []
-  unfolding sheetLine
-  by-tests k a b e f = rw (e, f)
+  pub one-refused : (r .refusal ≡ 0 → ⊥) → 1 ≡ length (readingLines r)
+  one-refused n = rw (refused-lines n)
 
-  later : (i : ℕ) → (i ≡ 0 → ⊥) → sheetLine r i ≡ sheetLine r (suc (i - 1))
-  later i n = let at : i ≡ suc (i - 1) = omega arith in ap (sheetLine r) at
+  pub heading-and-days : r .refusal ≡ 0 → 1 + r .count ≡ length (readingLines r)
+  heading-and-days e =
+      rw (accepted-lines e) (omega (arith, length-map (daysFrom (r .first) (r .count)) dayLine, days-long (r .first) (r .count)))
 
-  pub behind : (i : ℕ) → (i ≡ 0 → ⊥) → r .count < i → sheetLine r i ≡ []
-  behind i n h = later i n ∙ by-tests (i - 1) false (leb (r .first + (i - 1)) lastDay) (le-ltb (i - 1) (r .count) (omega arith)) refl
+  module _ (k : ℕ) where
+    pub first-refused : (r .refusal ≡ 0 → ⊥) → k ≡ 0 → lineAt (readingLines r) k ≡ refusalLine (r .refusal)
+    first-refused n z = rw (refused-lines n, z) (line-first _ _)
 
-  pub no-day : (i : ℕ) → (i ≡ 0 → ⊥) → i ≤ r .count → lastDay < r .first + (i - 1) → sheetLine r i ≡ []
-  no-day i n h k = later i n ∙ by-tests (i - 1) true false (lt-ltb (i - 1) (r .count) (omega arith)) (lt-leb (r .first + (i - 1)) lastDay k)
+    pub rest-refused : (r .refusal ≡ 0 → ⊥) → (k ≡ 0 → ⊥) → lineAt (readingLines r) k ≡ []
+    rest-refused n h = rw (refused-lines n) (line-behind _ k (omega arith))
 
-  pub day-line : (i : ℕ) → (i ≡ 0 → ⊥) → i ≤ r .count → r .first + (i - 1) ≤ lastDay → sheetLine r i ≡ recordLine (recordOn 1 (r .first + (i - 1)))
-  day-line i n h k = later i n ∙ by-tests (i - 1) true true (lt-ltb (i - 1) (r .count) (omega arith)) (le-leb (r .first + (i - 1)) lastDay k)
+    pub first-is-heading : r .refusal ≡ 0 → k ≡ 0 → lineAt (readingLines r) k ≡ monthHeading
+    first-is-heading e z = rw (accepted-lines e, z) (line-first _ _)
+
+    pub none-behind : r .refusal ≡ 0 → r .count < k → lineAt (readingLines r) k ≡ []
+    none-behind e h = line-behind (readingLines r) k (omega (arith, heading-and-days e))
+
+pub line-of-day : (r : Reading) (k : ℕ) → r .refusal ≡ 0 → (k ≡ 0 → ⊥) → k ≤ r .count → lineAt (readingLines r) k ≡ dayLine (r .first + (k - 1))
+line-of-day r zero e n h = absurd (n refl)
+line-of-day r (suc k) e n h =
+    let back : suc k - 1 ≡ k = omega arith in
+    rw (accepted-lines r e, back) (line-next _ _ k ∙ days-at (r .first) (r .count) k (omega arith))
 
 -- OF A FILE THAT IS READ each of its days has its line
-pub file-line : (f : List ℕ) (k : ℕ) → readingOf f .refusal ≡ 0 → k < countIn f → sheetLine (readingOf f) (suc k) ≡ recordLine (recordOn 1 (firstIn f + k))
+pub file-line : (f : List ℕ) (k : ℕ) → readingOf f .refusal ≡ 0 → k < countIn f → lineAt (readingLines (readingOf f)) (suc k) ≡ recordLine (recordOn firstEdition (firstIn f + k))
 file-line f k e h =
     let w : Whole f = whole f e in
-    ap (λ (r : Reading). sheetLine r (suc k)) (w .days-are)
-    ∙ by-tests (theDays (firstIn f) (countIn f)) k true true (lt-ltb k (countIn f) h) (le-leb (firstIn f + k) lastDay (omega (arith, days-fit f w)))
+    let back : suc k - 1 ≡ k = omega arith in
+    ap (λ (r : Reading). lineAt (readingLines r) (suc k)) (w .days-are)
+    ∙ line-of-day (theDays (firstIn f) (countIn f)) (suc k) refl (λ z. omega arith) (omega arith)
+    ∙ ap (λ (j : ℕ). dayLine (firstIn f + j)) back
+    ∙ a-day (firstIn f + k) (omega (arith, days-fit f w))

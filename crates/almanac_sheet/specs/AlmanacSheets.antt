@@ -1,10 +1,10 @@
 -- What is printed and said of an almanac file that was read.
 -- Assumes nothing.
-use mathlib.Core.Bool.{cond, _&&_}
-use mathlib.Core.List.{List, [], _++_}
-use Prim.Native.Nat.{ℕ, zero, suc, _+_}
-use lib.Dec.{ltb, leb, eqb}
-use Rattle.days.specs.Days.{lastDay}
+use mathlib.Core.Bool.{cond}
+use mathlib.Core.List.{List, [], _∷_, _++_, map}
+use Prim.Native.Nat.{ℕ}
+use lib.Dec.{leb, eqb}
+use Rattle.days.specs.Days.{lastDay, daysFrom}
 use Rattle.days.specs.Refusals.{accepted, badLength, badChecksum, badIndex, notZero}
 use Rattle.almanac.specs.declared.Reading.{Reading}
 use Rattle.month_sheet.specs.MonthSheets.{monthHeading, recordLine}
@@ -26,8 +26,12 @@ faultText refusal =
 unfoldable pub faultLine : ℕ → ℕ → List ℕ
 faultLine block refusal = ascii "block " ++ (digitsOf block ++ (ascii ": " ++ faultText refusal))
 
--- LINE k OF WHAT IS PRINTED, counted from 0: a month's heading, or the refusal; then a line for each day, as a month's
--- sheet has it. (The days of a file that is read are days: `days-fit`.)
-unfoldable pub sheetLine : Reading → ℕ → List ℕ
-sheetLine r zero = cond (eqb (r .refusal) accepted) monthHeading (refusalLine (r .refusal))
-sheetLine r (suc k) = cond (ltb k (r .count) && leb (r .first + k) lastDay) (recordLine (recordOn firstEdition (r .first + k))) []
+-- the line of day n, as a month's sheet has it; none for a number that is no day
+unfoldable pub dayLine : ℕ → List ℕ
+dayLine n = cond (leb n lastDay) (recordLine (recordOn firstEdition n)) []
+
+-- the lines of what was read: a month's heading and a line for each day, or the refusal. The law `file-line`: those of
+-- a file are all days' lines
+unfoldable pub readingLines : Reading → List (List ℕ)
+readingLines r =
+    cond (eqb (r .refusal) accepted) (monthHeading ∷ map dayLine (daysFrom (r .first) (r .count))) (refusalLine (r .refusal) ∷ [])

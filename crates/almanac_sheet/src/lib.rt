@@ -5,8 +5,10 @@ use days::Day;
 use days::refusal;
 use text::Line;
 ghost use mathlib.Core.Path.{_≡_};
-ghost use Rattle.text.specs.Lines.{emptyLine, withBytes, Holds};
-ghost use Rattle.almanac_sheet.specs.AlmanacSheets.{faultText, faultLine, sheetLine};
+ghost use lib.ListN.{length};
+ghost use Rattle.text.specs.Lines.{withBytes, Holds};
+ghost use Rattle.text.specs.Sheets.{lineAt};
+ghost use Rattle.almanac_sheet.specs.AlmanacSheets.{faultText, faultLine, dayLine, readingLines};
 
 fn with_reason(line: Line, refusal: u32) -> Line
     ensures { λ r. ⌜ r ≡ withBytes line (faultText refusal) ⌝ }
@@ -30,24 +32,43 @@ pub fn fault(block: u32, refusal: u32) -> Line
     with_reason(place, refusal)
 }
 
-// One of the lines that are printed of what was read, counted from 0; behind the last one nothing.
-pub fn line(reading: Reading, index: u64) -> Line
-    ensures { λ r. ⌜ r ≡ withBytes emptyLine (sheetLine reading index) ⌝ }
+// The line of a day, as a month's sheet has it; nothing for a number that is no day.
+fn day_line(day: u64) -> Line
+    ensures { λ r. ⌜ Holds r (dayLine day) ⌝ }
 {
-    if index == 0 {
-        if reading.refusal != refusal::NONE {
-            return text::refusal_line(reading.refusal);
-        }
-        return month_sheet::heading();
-    }
-    if (reading.count as u64) < index {
-        return Line::empty();
-    }
-    let before = index - 1;
-    let day = reading.first as u64 + before;
     if (Day::LAST as u64) < day {
         return Line::empty();
     }
     let answer = records::record_of(panchanga::FIRST_EDITION, day as u32);
     month_sheet::record_line(answer.day_record)
+}
+
+// How many lines are printed of what was read; a refusal is one.
+pub fn line_count(reading: Reading) -> usize
+    ensures { λ r. ⌜ r ≡ length (readingLines reading) ⌝ }
+{
+    if reading.refusal != refusal::NONE {
+        return 1;
+    }
+    1 + reading.count as usize
+}
+
+// One of the lines that are printed of what was read, counted from 0; behind the last one nothing.
+pub fn line(reading: Reading, index: usize) -> Line
+    ensures { λ r. ⌜ Holds r (lineAt (readingLines reading) index) ⌝ }
+{
+    if reading.refusal != refusal::NONE {
+        if index == 0 {
+            return text::refusal_line(reading.refusal);
+        }
+        return Line::empty();
+    }
+    if index == 0 {
+        return month_sheet::heading();
+    }
+    if (reading.count as usize) < index {
+        return Line::empty();
+    }
+    let before = index - 1;
+    day_line(reading.first as u64 + before as u64)
 }
