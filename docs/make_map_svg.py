@@ -16,13 +16,14 @@ PICTURE = ROOT / "docs/map.svg"
 
 UNDER_ALL = "days integers entries text words input output".split()
 READS = "values page question span_line date_lines".split()
-RECKONS = "civil iso saka longitudes panchanga planets older_motions arms records query search lunar_months reasons zodiac".split()
-PRINTS = "dated sheet month_sheet plate messages drift_sheet catalogue explanation lunar_month_sheet sign_sheet reply conversion".split()
+RECKONS = "civil iso saka longitudes panchanga planets older_motions arms records query search lunar_months reasons blocks almanac zodiac".split()
+PRINTS = "dated sheet month_sheet almanac_sheet plate messages drift_sheet catalogue explanation lunar_month_sheet sign_sheet reply conversion".split()
 # Who, what is asked and answered, and the programs: for the operator calls from C, so numbers and no text.
 LANES = [
     ("the reader", "which days, and why not that one", "find why"),
     ("the operator", "a planet table, from C", "host"),
     ("the almanac desk", "a day, and thirty at one go", "day_sheet month"),
+    ("the server", "almanac files, and read back", "almanac_write almanac_read"),
     ("calendar printers", "when the Sun enters a sign", "signs"),
     ("who leafs", "the lunar month of a day", "lunar_month"),
     ("engravers", "a plate with thirds", "engraving"),
