@@ -35,11 +35,12 @@ same-length c = search needs
 returns : tie.Need-returns
 unfolding listingOf
 returns c =
-    let s = c .before .before .before .before .read .ensures in
-    (ap₂ (λ (refusal days : ℕ). 4294967296 * refusal + days)
-    (ap (λ (done : Transfer). done .refusal) (s .0))
-    (ap (λ (read : Reading). read .count) (c .before .before .before .before .before .before .ended .ensures ∙ ap ended (c .before .before .before .before .before .before .before .go-through .ensures))),
-    s .1)
+    let s = c .before .before .before .before .read .ensures in (
+      ap₂ (λ (refusal days : ℕ). 4294967296 * refusal + days)
+          (ap (λ (done : Transfer). done .refusal) (s .0))
+          (ap (λ (read : Reading). read .count) (c .before .before .before .before .before .before .ended .ensures ∙ ap ended (c .before .before .before .before .before .before .before .go-through .ensures))),
+      s .1,
+    )
 
 pub bridge-almanac-read-blocks-spec : {M : Type 1} → statement M
 bridge-almanac-read-blocks-spec =
