@@ -1,8 +1,8 @@
 -- What is answered, case by case: a span's bytes, a file or a block written or refused, a file's days read or refused.
 -- Assumes nothing.
-use Prim.Native.Nat.{ℕ, zero, suc, _+_, _-_, _*_, _/_, _≤_, _<_}
+use Prim.Native.Nat.{ℕ, zero, suc, _+_, _-_, _*_, _≤_, _<_}
 use mathlib.Core.Path.{_≡_, refl, ap, ap₂, sym, _∙_}
-use mathlib.Core.Bool.{Bool, true, false, cond, _&&_, false≢true}
+use mathlib.Core.Bool.{Bool, true, false, cond, _&&_}
 use mathlib.Core.List.{List, _++_}
 use native.Mathlib.Omega.{arith}
 use lib.Dec.{leb, ltb, eqb}
@@ -10,11 +10,11 @@ use lib.ListN.{length, take, drop}
 use lib.Seq.{drop-drop}
 use borrow.Author.Tests.{le-leb, lt-leb, lt-ltb, le-ltb, eq-eqb, ne-eqb, eqb-true, eqb-false, leb-true}
 use Rattle.days.specs.declared.NumberAnswer.{NumberAnswer}
-use Rattle.days.specs.Days.{theNumber, noNumber, refusedSpanOr, spanRefusal, daysFrom}
+use Rattle.days.specs.Days.{theNumber, noNumber, spanRefusal, daysFrom}
 use Rattle.days.proofs.Laws.{span-refused, span-given}
 use Rattle.entries.specs.Entries.{capacity, entryAt, withEntry, withEntries, withEntriesFrom}
 use Rattle.entries.proofs.Putting.{put-all}
-use Rattle.blocks.specs.Blocks.{daysIn, blockOf, blockAfter, blockRefusal}
+use Rattle.blocks.specs.Blocks.{daysIn, blockOf, blockRefusal}
 use Rattle.blocks.proofs.Steps.{entry-found}
 use Rattle.blocks.proofs.Laws.{Sound, sound, held-days}
 use Rattle.almanac.specs.declared.Transfer.{Transfer}

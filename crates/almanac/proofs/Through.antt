@@ -1,14 +1,14 @@
 -- THE LAW OF READING BLOCK BY BLOCK: what is said after all pieces of a file is what the file means. By induction on
 -- the pieces that are left: they are as many whole blocks as the count still demands, or the length is wrong.
 -- Assumes nothing.
-use Prim.Native.Nat.{ℕ, zero, suc, _+_, _-_, _*_, _/_, _≤_, _<_, min}
+use Prim.Native.Nat.{ℕ, zero, suc, _+_, _-_, _*_, _≤_, _<_, min}
 use mathlib.Core.Path.{_≡_, refl, ap, ap₂, sym, _∙_}
 use mathlib.Core.Bool.{Bool, true, false, cond, _&&_}
-use mathlib.Core.List.{List, []}
+use mathlib.Core.List.{List}
 use native.Mathlib.Omega.{arith}
 use native.Mathlib.Decide.{decLe}
-use lib.Dec.{leb, ltb, eqb}
-use lib.ListN.{length, getD, take, drop, length-take, length-drop, drop-of-length-le}
+use lib.Dec.{ltb, eqb}
+use lib.ListN.{length, take, drop, length-take, length-drop, drop-of-length-le}
 use lib.Seq.{getD-take, length-take-le, take-all, drop-drop}
 use borrow.Author.Tests.{le-leb, lt-leb, lt-ltb, le-ltb, eq-eqb, ne-eqb, eqb-true, eqb-false}
 use Rattle.entries.specs.Entries.{entryDay}
@@ -16,7 +16,7 @@ use Rattle.blocks.specs.Blocks.{blockRefusal}
 use Rattle.almanac.specs.declared.Reader.{Reader}
 use Rattle.almanac.specs.declared.Reading.{Reading}
 use Rattle.almanac.specs.Files.{blocksFor}
-use Rattle.almanac.specs.Reading.{theDays, noDays, countIn, firstIn, lengthHolds, firstBad, daysUnless, readingOf, start, opened, taken, brokenOff, next, ended, through, pieces, goneThrough}
+use Rattle.almanac.specs.Reading.{noDays, countIn, firstIn, lengthHolds, firstBad, daysUnless, readingOf, start, opened, taken, brokenOff, next, ended, through, pieces, goneThrough}
 
 -- tests that agree
 eqb-same : (a b c d : ℕ) → (a ≡ b → c ≡ d) → (c ≡ d → a ≡ b) → eqb a b ≡ eqb c d

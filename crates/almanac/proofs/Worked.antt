@@ -6,7 +6,6 @@ use Prim.Native.Nat.{ℕ}
 use lib.ListN.{replicate}
 use Rattle.entries.specs.Entries.{entry, entries, entryDay}
 use Rattle.blocks.specs.Blocks.{weighted, checksum, sealed, allZero, checksumHolds, daysIn, dayHolds, daysHold, blockRefusal}
-use Rattle.almanac.specs.declared.Reading.{Reading}
 use Rattle.almanac.specs.Reading.{lengthHolds, firstBad, daysUnless, readingOf}
 
 -- the first numbers of a block of one day, and zeros behind them: sealed with their checksum, or with no checksum

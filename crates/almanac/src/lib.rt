@@ -6,7 +6,7 @@ use days::refusal;
 ghost use mathlib.Core.Path.{_≡_};
 ghost use Prim.Native.Nat.{_+_, _*_, _≤_, min};
 ghost use lib.ListN.{length};
-ghost use Rattle.days.specs.Days.{lastDay, daysFrom};
+ghost use Rattle.days.specs.Days.{daysFrom};
 ghost use Rattle.entries.specs.Entries.{capacity, withEntriesFrom};
 ghost use Rattle.almanac.specs.Files.{blocksFor, bytesNeeded, writingOf, fileAfter, blockResult, blockWritten};
 ghost use Rattle.almanac.specs.Reading.{noDays, start, opened, taken, brokenOff, next, ended, faultAt, goneThrough, readingOf, listingOf, listAfter};

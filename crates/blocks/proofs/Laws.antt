@@ -4,18 +4,18 @@
 -- Assumes nothing.
 use Prim.Native.Nat.{ℕ, zero, suc, _+_, _-_, _*_, _≤_, _<_}
 use mathlib.Core.Path.{_≡_, refl, ap, ap₂, sym, _∙_}
-use mathlib.Core.Bool.{Bool, true, false, cond, _&&_, false≢true, true≢false}
+use mathlib.Core.Bool.{Bool, true, false, cond, _&&_, false≢true}
 use mathlib.Core.List.{List, [], _∷_, _++_, append-assoc, append-nil}
 use native.Mathlib.Omega.{arith}
 use native.Mathlib.Decide.{decLe}
 use native.Mathlib.Nat.{le-of-mul-le-mul-right}
 use lib.Dec.{leb, eqb}
-use lib.ListN.{length, getD, take, drop, set, replicate, take-append-drop, length-append, length-take, length-drop, length-replicate, replicate-append-replicate, List·getD-append}
+use lib.ListN.{length, getD, take, drop, set, replicate, take-append-drop, length-append, length-drop, length-replicate, replicate-append-replicate, List·getD-append}
 use lib.Seq.{take-add, take-all, drop-drop, length-take-le, take-set-le, take-set-lt, getD-take, getD-set-same, getD-set-other, getD-append-seam, getD-append-add, getD-at, take-at, drop-at}
 use borrow.Author.Tests.{leb-true, eqb-true, eq-eqb, ne-eqb, le-leb}
 use Rattle.days.specs.Days.{lastDay, daysFrom, pairAt}
 use Rattle.entries.specs.Entries.{entry, entries, entryDay}
-use Rattle.blocks.specs.Blocks.{elementsOf, dayNumbers, dayBytes, daysBytes, daysIn, weighted, checksum, front, sealed, blockOf, allZero, checksumHolds, hasNumbers, dayHolds, daysHold, blockRefusal}
+use Rattle.blocks.specs.Blocks.{elementsOf, dayNumbers, daysBytes, daysIn, weighted, checksum, front, sealed, blockOf, allZero, checksumHolds, hasNumbers, dayHolds, daysHold, blockRefusal}
 use Rattle.entries.proofs.Laws.{entry-length, entries-length, entries-snoc, read-entry}
 use Rattle.longitudes.proofs.Table.{longitude-small, nine-at}
 use Rattle.panchanga.proofs.Bounds.{sun-small, moon-small}

@@ -3,12 +3,12 @@
 -- Assumes nothing.
 use Prim.Native.Nat.{ℕ, zero, suc, _+_, _-_, _*_, _/_, _%_, _≤_, _<_}
 use mathlib.Core.Path.{_≡_, refl, ap, ap₂, sym, _∙_}
-use mathlib.Core.List.{List, [], _∷_, _++_, append-assoc, append-nil}
+use mathlib.Core.List.{List, [], _∷_, _++_, append-assoc}
 use native.Mathlib.Omega.{arith}
 use lib.ListN.{length, take, drop, replicate, length-append, length-replicate, replicate-append-replicate}
 use lib.Seq.{take-at}
 use Rattle.days.specs.Days.{daysFrom}
-use Rattle.entries.specs.Entries.{entry, entries, capacity, withEntry, withEntries, withEntriesFrom}
+use Rattle.entries.specs.Entries.{entry, entries, withEntry, withEntriesFrom}
 use Rattle.entries.proofs.Laws.{entries-length, entries-snoc, entries-next}
 use Rattle.entries.proofs.Putting.{put-append, put-all}
 use Rattle.panchanga.specs.TrueLongitudes.{firstEdition}

@@ -1,14 +1,14 @@
 -- A day's thirteen numbers: what a record has, laid out one by one, and how large its elements are.
 -- Assumes nothing.
 use Prim.Native.Nat.{ℕ, _+_, _*_, _≤_, _<_}
-use mathlib.Core.Path.{_≡_, refl, ap, sym, _∙_}
+use mathlib.Core.Path.{_≡_, refl, ap, _∙_}
 use mathlib.Core.List.{List, [], _∷_, _++_}
 use native.Mathlib.Omega.{arith}
 use borrow.Author.Tests.{le-leb}
 use lib.ListN.{length, getD}
 use Rattle.days.specs.Days.{lastDay, pairAt}
 use Rattle.longitudes.proofs.Table.{nine-long}
-use Rattle.panchanga.specs.TrueLongitudes.{firstEdition, isEdition}
+use Rattle.panchanga.specs.TrueLongitudes.{isEdition}
 use Rattle.panchanga.proofs.Bounds.{tithi-small, nakshatra-small, yoga-small, karana-range}
 use Rattle.records.specs.declared.DayRecord.{DayRecord}
 use Rattle.records.specs.declared.RecordAnswer.{RecordAnswer}

@@ -1,5 +1,5 @@
 -- `bytes_needed` meets its contract: refused, or the blocks' bytes.
-use mathlib.Core.Path.{_≡_, refl, sym, ap, _∙_}
+use mathlib.Core.Path.{_≡_, sym, ap, _∙_}
 use native.Mathlib.Omega.{arith}
 use Prim.Native.Nat.{ℕ, _*_}
 use Rattle.days.specs.Days.{theNumber, noNumber, spanRefusal}

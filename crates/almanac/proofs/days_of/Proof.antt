@@ -1,6 +1,5 @@
 -- `days_of` meets its contract: going through the blocks gives the reading.
-use mathlib.Core.Path.{_≡_, refl, sym, ap, _∙_}
-use native.Mathlib.Omega.{arith}
+use mathlib.Core.Path.{ap, _∙_}
 use Rattle.almanac.specs.Reading.{ended}
 use Rattle.almanac.proofs.Through.{read-through}
 use borrow.Author.Needs.{needs}

@@ -1,8 +1,7 @@
 -- `go_through` meets its contract: going on from where the loop stands is going through the whole file.
 use borrow.Author.Needs.{needs}
-use mathlib.Core.Path.{_≡_, refl, sym, ap, _∙_}
 use native.Mathlib.Omega.{arith}
-use Prim.Native.Nat.{ℕ, _-_, _≤_}
+use Prim.Native.Nat.{_-_, _≤_}
 use lib.ListN.{length}
 use Rattle.almanac.proofs.Through.{Gone, gone-start, gone-on, gone-end}
 use Rattle.almanac.proofs.go_through.Statement.{statement}

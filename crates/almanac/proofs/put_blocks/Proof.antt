@@ -1,9 +1,7 @@
 -- `put_blocks` meets its contract: the blocks so far, and behind them what was there.
 use borrow.Author.Needs.{needs}
-use mathlib.Core.Path.{_≡_, refl, sym, ap, _∙_}
 use native.Mathlib.Omega.{arith}
-use Prim.Native.Nat.{ℕ, _-_, _≤_}
-use lib.ListN.{length}
+use Prim.Native.Nat.{_-_, _≤_}
 use Rattle.almanac.proofs.Writing.{Written, written-start, written-lent, written-length, written-end}
 use Rattle.almanac.proofs.put_blocks.Statement.{statement}
 use Rattle.almanac.proofs.put_blocks.Tie as tie

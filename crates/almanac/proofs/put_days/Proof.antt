@@ -1,8 +1,8 @@
 -- `put_days` meets its contract: with the days left put too, the list is that with all of them.
 use borrow.Author.Needs.{needs}
-use mathlib.Core.Path.{_≡_, refl, sym, ap, _∙_}
+use mathlib.Core.Path.{_≡_, refl, ap, _∙_}
 use native.Mathlib.Omega.{arith}
-use Prim.Native.Nat.{ℕ, _-_, _≤_}
+use Prim.Native.Nat.{_-_, _≤_}
 use lib.ListN.{length}
 use Rattle.entries.proofs.Laws.{with-entry-length}
 use Rattle.almanac.proofs.Answers.{DaysPut, put-start, put-next, put-end}

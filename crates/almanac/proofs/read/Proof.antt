@@ -1,6 +1,4 @@
 -- `read` meets its contract: refused, too few entries, or the days put.
-use mathlib.Core.Path.{_≡_, refl, sym, ap, _∙_}
-use native.Mathlib.Omega.{arith}
 use Rattle.almanac.proofs.Answers.{read-refused, read-short, fit, read-done}
 use borrow.Author.Needs.{needs}
 use Rattle.almanac.proofs.read.Statement.{statement}

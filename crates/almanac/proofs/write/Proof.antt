@@ -1,7 +1,6 @@
 -- `write` meets its contract: refused, too few bytes, or the blocks put.
-use mathlib.Core.Path.{_≡_, refl, sym, ap, _∙_}
 use native.Mathlib.Omega.{arith}
-use Rattle.days.proofs.Laws.{Span, span-accepted}
+use Rattle.days.proofs.Laws.{span-accepted}
 use Rattle.almanac.proofs.Answers.{span-accepted-too, write-refused, write-short, write-done, enough}
 use borrow.Author.Needs.{needs}
 use Rattle.almanac.proofs.write.Statement.{statement}

@@ -1,5 +1,5 @@
 -- `write_block` meets its contract: refused, or the block put.
-use mathlib.Core.Path.{_≡_, refl, sym, ap, _∙_}
+use mathlib.Core.Path.{_≡_, sym, _∙_}
 use native.Mathlib.Omega.{arith}
 use Prim.Native.Nat.{_<_}
 use Rattle.days.specs.Days.{spanRefusal}

@@ -1,5 +1,4 @@
 -- `put_block` meets its contract: nothing put, or the block's numbers one after another and their sum.
-use Prim.Native.Nat.{ℕ, _+_, _*_, _<_, _≤_}
 use native.Mathlib.Omega.{arith}
 use Rattle.blocks.proofs.Laying.{block-put}
 use Rattle.blocks.proofs.Answers.{no-room, not-put, is-put, some-days, no-days, days-fit}

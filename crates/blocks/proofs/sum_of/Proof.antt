@@ -1,7 +1,7 @@
 -- `sum_of` meets its contract: the sum over the bytes passed, which no byte at any position takes past 32 bits.
 use borrow.Author.Needs.{needs}
-use Prim.Native.Nat.{ℕ, _+_, _-_, _*_, _≤_}
-use mathlib.Core.Path.{_≡_, sym, _∙_}
+use Prim.Native.Nat.{_+_, _-_, _*_, _≤_}
+use mathlib.Core.Path.{_≡_, sym}
 use native.Mathlib.Omega.{arith}
 use lib.ListN.{take}
 use Rattle.blocks.specs.Blocks.{checksum}

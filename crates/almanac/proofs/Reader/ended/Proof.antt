@@ -1,6 +1,5 @@
 -- `Reader::ended` meets its contract, case by case.
-use mathlib.Core.Path.{_≡_, refl, sym, ap, _∙_}
-use native.Mathlib.Omega.{arith}
+use mathlib.Core.Path.{sym, _∙_}
 use Rattle.almanac.proofs.Answers.{ended-broken, ended-none, ended-other, ended-bad, ended-read}
 use borrow.Author.Needs.{needs}
 use Rattle.almanac.proofs.Reader.ended.Statement.{statement}

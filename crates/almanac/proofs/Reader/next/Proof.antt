@@ -1,5 +1,5 @@
 -- `Reader::next` meets its contract: broken already, no block, a block too many, or the next one.
-use mathlib.Core.Path.{_≡_, refl, sym, ap, _∙_}
+use mathlib.Core.Path.{sym, _∙_}
 use native.Mathlib.Omega.{arith}
 use Rattle.almanac.proofs.Through.{next-broken, no-block, no-more-due, one-due}
 use borrow.Author.Needs.{needs}

@@ -1,6 +1,5 @@
 -- `Reader::opened` meets its contract: before the first block its numbers are read.
-use mathlib.Core.Path.{_≡_, refl, sym, ap, _∙_}
-use native.Mathlib.Omega.{arith}
+use mathlib.Core.Path.{sym}
 use Rattle.almanac.proofs.Through.{opened-before}
 use Rattle.almanac.proofs.Answers.{opened-now}
 use borrow.Author.Needs.{needs}
