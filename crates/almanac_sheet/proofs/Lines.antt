@@ -1,5 +1,5 @@
 -- The lines of what was read by refusal and index, and how many there are; and of a file that is read: a line for each
--- day, as a month's sheet has it. Assumes nothing.
+-- day, as a month's sheet has it, and none is refused for want of room. Assumes nothing.
 use mathlib.Core.List.{List, [], _∷_, map}
 use mathlib.Core.Path.{_≡_, refl, sym, ap, _∙_, subst}
 use Prim.Native.Nat.{ℕ, zero, suc, _+_, _-_, _≤_, _<_}
@@ -10,12 +10,14 @@ use Rattle.days.specs.Days.{lastDay, daysFrom}
 use Rattle.almanac.specs.declared.Reading.{Reading}
 use Rattle.almanac.specs.Reading.{theDays, countIn, firstIn, readingOf}
 use Rattle.almanac.proofs.Answers.{Whole, whole, days-fit, days-long}
-use Rattle.month_sheet.specs.MonthSheets.{monthHeading, recordLine}
+use Rattle.month_sheet.specs.MonthSheets.{monthHeading, recordBytes, recordLine}
+use Rattle.month_sheet.proofs.Fitting.{record-fits}
 use Rattle.panchanga.specs.TrueLongitudes.{firstEdition}
 use Rattle.records.specs.Records.{recordOn}
 use Rattle.text.specs.declared.Line.{Line}
 use Rattle.text.specs.Lines.{Holds, refusalLine}
 use Rattle.text.specs.Sheets.{lineAt}
+use Rattle.text.proofs.Holding.{whole-line}
 use Rattle.text.proofs.Sheets.{line-first, line-next, line-behind}
 use Rattle.almanac_sheet.specs.AlmanacSheets.{dayLine, readingLines}
 
@@ -76,12 +78,15 @@ line-of-day r (suc k) e n h =
     let back : suc k - 1 ≡ k = omega arith in
     rw (accepted-lines r e, back) (line-next _ _ k ∙ days-at (r .first) (r .count) k (omega arith))
 
--- OF A FILE THAT IS READ each of its days has its line
-pub file-line : (f : List ℕ) (k : ℕ) → readingOf f .refusal ≡ 0 → k < countIn f → lineAt (readingLines (readingOf f)) (suc k) ≡ recordLine (recordOn firstEdition (firstIn f + k))
+-- OF A FILE THAT IS READ each of its days has its line, whole
+pub file-line : (f : List ℕ) (k : ℕ) → readingOf f .refusal ≡ 0 → k < countIn f → lineAt (readingLines (readingOf f)) (suc k) ≡ recordBytes (recordOn firstEdition (firstIn f + k))
+unfolding recordLine
 file-line f k e h =
     let w : Whole f = whole f e in
     let back : suc k - 1 ≡ k = omega arith in
+    let day : firstIn f + k ≤ lastDay = omega (arith, days-fit f w) in
     ap (λ (r : Reading). lineAt (readingLines r) (suc k)) (w .days-are)
     ∙ line-of-day (theDays (firstIn f) (countIn f)) (suc k) refl (λ z. omega arith) (omega arith)
     ∙ ap (λ (j : ℕ). dayLine (firstIn f + j)) back
-    ∙ a-day (firstIn f + k) (omega (arith, days-fit f w))
+    ∙ a-day (firstIn f + k) day
+    ∙ whole-line _ (record-fits firstEdition (firstIn f + k) day)

@@ -30,8 +30,8 @@ faultLine block refusal = ascii "block " ++ (digitsOf block ++ (ascii ": " ++ fa
 unfoldable pub dayLine : ℕ → List ℕ
 dayLine n = cond (leb n lastDay) (recordLine (recordOn firstEdition n)) []
 
--- the lines of what was read: a month's heading and a line for each day, or the refusal. The law `file-line`: those of
--- a file are all days' lines
+-- the lines of what was read: a month's heading and a line for each day, or the refusal. The law `file-line`: of a file
+-- each day has its line, whole
 unfoldable pub readingLines : Reading → List (List ℕ)
 readingLines r =
     cond (eqb (r .refusal) accepted) (monthHeading ∷ map dayLine (daysFrom (r .first) (r .count))) (refusalLine (r .refusal) ∷ [])

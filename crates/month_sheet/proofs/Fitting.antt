@@ -42,7 +42,8 @@ nine-fit d =
     let b₈ = digits-length 6 (longitudeAt 8 d) (omega (arith, longitude-small 8 d)) in
     simp length-append (omega arith)
 
-record-fits : (e n : ℕ) → n ≤ lastDay → length (recordBytes (recordOn e n)) ≤ lineCapacity
+-- a day's record fits a line
+pub record-fits : (e n : ℕ) → n ≤ lastDay → length (recordBytes (recordOn e n)) ≤ lineCapacity
 unfolding recordBytes recordOn spaced
 record-fits e n h =
     let d = pairAt n in
