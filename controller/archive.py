@@ -37,10 +37,10 @@ RISCV_FLOATS = {f"__{name}" for name in ("adddf3", "subdf3", "muldf3", "divdf3",
                                          "floatundidf", "fixdfsi", "fixunsdfsi", "fixdfdi", "fixunsdfdi")}
 KIB = 1024
 TARGETS = {
-    "cortex-m4": Target(["--target=thumbv7em-none-eabihf", "-mcpu=cortex-m4"], ARM | ARM_FLOATS, 16 * KIB, 1536),
-    "armv7": Target(["--target=armv7-linux-gnueabihf", "-fPIC"], ARM, 16 * KIB, 1536),
-    "aarch64": Target(["--target=aarch64-linux-gnu", "-fPIC"], MEMORY, 16 * KIB, 1536),
-    "rv32": Target(["--target=riscv32-unknown-elf", "-march=rv32imac", "-mabi=ilp32"], RISCV | RISCV_FLOATS, 16 * KIB, 1536),
+    "cortex-m4": Target(["--target=thumbv7em-none-eabihf", "-mcpu=cortex-m4"], ARM | ARM_FLOATS, 24 * KIB, KIB),
+    "armv7": Target(["--target=armv7-linux-gnueabihf", "-fPIC"], ARM, 24 * KIB, KIB),
+    "aarch64": Target(["--target=aarch64-linux-gnu", "-fPIC"], MEMORY, 24 * KIB, KIB),
+    "rv32": Target(["--target=riscv32-unknown-elf", "-march=rv32imac", "-mabi=ilp32"], RISCV | RISCV_FLOATS, 24 * KIB, KIB),
 }
 FLAGS = ["-Os", "-ffunction-sections", "-fdata-sections", "-fstack-size-section", "-fno-asynchronous-unwind-tables", "-Wno-override-module"]
 
