@@ -247,7 +247,7 @@ int main(int count, char **word) {
     pair("sparse search, a list of 1000 entries", search_job(ours, SPARSE, 4000), search_job(plain, SPARSE, ROOM), 1.15);
     pair("sparse search, refused: an entry short", search_job(ours, SPARSE, needed(SPARSE) - 4), search_job(plain, SPARSE, ROOM), 1.1);
     pair("dense search, an entry for each day", search_job(ours, DENSE, ROOM), search_job(plain, DENSE, ROOM), 1.1);
-    pair("dense search, a list that just fits", search_job(ours, DENSE, needed(DENSE)), search_job(plain, DENSE, ROOM), 1.8);
+    pair("dense search, a list that just fits", search_job(ours, DENSE, needed(DENSE)), search_job(plain, DENSE, ROOM), 2.0);
     pair("dense search, refused: an entry short", search_job(ours, DENSE, needed(DENSE) - 4), search_job(plain, DENSE, ROOM), 1.1);
     pair("sparse search, against a test of every day", search_job(ours, SPARSE, ROOM), search_job(every, SPARSE, ROOM), -50);
     size_t signs_needed = 4 * (size_t)graha_sign_entries_length(0, DAYS - 1);
