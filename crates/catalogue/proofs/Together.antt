@@ -3,12 +3,12 @@
 -- are due, and the lines from the entry handed back on are the rest; by induction on the calls. Assumes nothing.
 use mathlib.Core.Path.{_≡_, refl, ap, ap₂, sym, subst, _∙_}
 use mathlib.Core.Bool.{Bool, true, false}
-use mathlib.Core.List.{List, [], _∷_, _++_, append-assoc, append-nil}
+use mathlib.Core.List.{List, [], _∷_, _++_, append-assoc}
 use Prim.Native.Nat.{ℕ, zero, suc, _+_, _-_, _≤_, _<_}
 use native.Mathlib.Decide.{decLe}
 use native.Mathlib.Omega.{arith}
-use lib.ListN.{length, take, drop, getD, length-append, drop-of-length-le}
-use lib.Seq.{take-append-seam, drop-length, drop-cons}
+use lib.ListN.{length, take, drop, length-append}
+use lib.Seq.{take-append-seam}
 use Rattle.entries.specs.Entries.{capacity, entryAt}
 use Rattle.entries.specs.Listed.{entryDays, listedFrom, EachDay}
 use Rattle.entries.proofs.Listed.{no-days, more-days, days-length}

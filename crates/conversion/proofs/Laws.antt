@@ -3,7 +3,7 @@
 use mathlib.Core.Bool.{Bool, true, false, cond, _&&_}
 use mathlib.Core.Path.{_≡_, refl, ap, ap₂, sym, _∙_}
 use mathlib.Core.List.{List, _++_}
-use Prim.Native.Nat.{ℕ, _+_, _*_, _≤_, _<_}
+use Prim.Native.Nat.{ℕ, _+_, _*_, _≤_}
 use native.Mathlib.Omega.{arith}
 use lib.Dec.{eqb, ltb}
 use lib.ListN.{length, take, drop, length-append}
@@ -16,7 +16,7 @@ use Rattle.entries.proofs.Listed.{listed-entries}
 use Rattle.text.specs.Lines.{refusalLine}
 use Rattle.date_lines.specs.declared.Kind.{Kind}
 use Rattle.date_lines.specs.declared.Converted.{Converted}
-use Rattle.date_lines.specs.Texts.{linesOf, daysOf, limitedRead, withRoom, listAnswer, listAfter, textOf, converted, daysAnswer, textAnswer, textAfter, withFront}
+use Rattle.date_lines.specs.Texts.{linesOf, daysOf, withRoom, listAnswer, listAfter, textOf, converted, daysAnswer, textAnswer, textAfter, withFront}
 use Rattle.date_lines.proofs.Reading.{Accepted, accepted-lines, days-length}
 use Rattle.date_lines.proofs.Laws.{each-read, text-short, days-fit}
 use Rattle.conversion.specs.Conversion.{otherKind, readOf, printed, told}

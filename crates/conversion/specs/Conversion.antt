@@ -1,7 +1,7 @@
 -- What the two programs print and say: lines of one kind to lines of the other, up to 4,096 of them, or the refusal.
 -- Assumes nothing.
 use mathlib.Core.Bool.{cond}
-use mathlib.Core.List.{List, [], _++_}
+use mathlib.Core.List.{List, _++_}
 use Prim.Native.Nat.{ℕ}
 use lib.Dec.{eqb}
 use lib.ListN.{length}

@@ -9,7 +9,7 @@ ghost use mathlib.Core.Path.{_≡_};
 ghost use lib.ListN.{length};
 ghost use Rattle.text.specs.Lines.{withBytes, Holds, refusalLine};
 ghost use Rattle.date_lines.specs.Texts.{withFront};
-ghost use Rattle.conversion.specs.Conversion.{otherKind, readOf, printed, told, formText, faultText, faultLine};
+ghost use Rattle.conversion.specs.Conversion.{otherKind, printed, told, formText, faultText, faultLine};
 
 const MOST_LINES: usize = 4096;
 

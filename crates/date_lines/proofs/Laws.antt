@@ -1,9 +1,9 @@
 -- THE LAWS of lines: a day's line is read as that day, a line of a date that is read as a day is that day's line, and
 -- reading what was written gives the list
 -- back, for both kinds of line. By the bytes of a line, and by induction on the days. Assumes nothing.
-use mathlib.Core.Bool.{Bool, true, false, cond, _&&_, and-eq-true-iff, false≢true}
+use mathlib.Core.Bool.{Bool, true, false, cond, _&&_, and-eq-true-iff}
 use mathlib.Core.Path.{_≡_, refl, ap, ap₂, sym, _∙_}
-use mathlib.Core.List.{List, [], _∷_, _++_, append-assoc}
+use mathlib.Core.List.{List, [], _∷_, _++_}
 use Prim.Native.Nat.{ℕ, suc, _+_, _*_, _-_, _/_, _%_, _≤_, _<_}
 use Prim.Native.Char.{code}
 use native.Mathlib.Omega.{arith}
@@ -15,12 +15,12 @@ use Rattle.days.specs.declared.NumberAnswer.{NumberAnswer}
 use Rattle.days.specs.Refusals.{outOfRange, badInput, badLine}
 use Rattle.days.specs.Days.{lastDay, theNumber, noNumber}
 use Rattle.entries.specs.Listed.{EachDay}
-use Rattle.text.specs.Decimal.{isDigit, allDigits, withDigit, valueOf, numberRead, digitByte, digitsOf}
+use Rattle.text.specs.Decimal.{isDigit, allDigits, withDigit, valueOf, digitByte, digitsOf}
 use Rattle.text.specs.Lines.{newline}
 use Rattle.text.specs.Inputs.{isLine, inputRead, dayInput}
 use Rattle.text.proofs.Inputs.{day-read-low}
 use Rattle.text.proofs.Reading.{is-digit}
-use Rattle.text.proofs.Printing.{digits-some, digits-length}
+use Rattle.text.proofs.Printing.{digits-length}
 use Rattle.text.proofs.RoundTrip.{digits-all, read-digits}
 use Rattle.words.specs.Words.{dash, inFront}
 use Rattle.civil.specs.declared.Date.{Date}

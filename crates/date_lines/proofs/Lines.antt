@@ -1,15 +1,15 @@
 -- One line: which is a date's, test by test, and what is printed. Assumes nothing.
-use mathlib.Core.Bool.{Bool, true, false, cond, _&&_}
+use mathlib.Core.Bool.{Bool, true, false, cond}
 use mathlib.Core.Path.{_≡_, refl, ap, sym, _∙_}
-use mathlib.Core.List.{List, [], _∷_, _++_}
-use Prim.Native.Nat.{ℕ, _+_, _≤_, _<_}
+use mathlib.Core.List.{List}
+use Prim.Native.Nat.{ℕ, _≤_, _<_}
 use native.Mathlib.Omega.{arith}
 use lib.ListN.{length, getD, take, length-append}
 use borrow.Author.Tests.{eq-eqb, ne-eqb, le-leb}
 use Rattle.days.specs.declared.NumberAnswer.{NumberAnswer}
 use Rattle.days.specs.Refusals.{badInput, badLine}
 use Rattle.days.specs.Days.{lastDay, theNumber, noNumber}
-use Rattle.text.specs.Decimal.{allDigits, valueOf, numberRead, digitsOf}
+use Rattle.text.specs.Decimal.{allDigits, valueOf, numberRead}
 use Rattle.text.specs.declared.Line.{Line}
 use Rattle.text.specs.Lines.{newline, lineCapacity, contents, Holds}
 use Rattle.text.proofs.Reading.{read-few}

@@ -17,7 +17,7 @@ use Rattle.text.proofs.Lending.{lent-rest}
 use Rattle.date_lines.specs.declared.Kind.{Kind}
 use Rattle.date_lines.specs.declared.Converted.{Converted}
 use Rattle.date_lines.specs.Lines.{lineOf}
-use Rattle.date_lines.specs.Texts.{textOf, withFront, daysAnswer, textAnswer, textAfter}
+use Rattle.date_lines.specs.Texts.{textOf, withFront, textAnswer, textAfter}
 use Rattle.date_lines.proofs.Measuring.{text-length, next-listed}
 
 -- a line put at a byte, and the others behind it, are put together

@@ -5,11 +5,11 @@ use mathlib.Core.Path.{_≡_, refl, sym, ap, _∙_}
 use Prim.Native.Nat.{ℕ, zero, suc, _+_, _*_, _-_, _/_, _%_, _≤_, _<_}
 use native.Mathlib.Omega.{arith}
 use lib.Dec.{leb, ltb, eqb}
-use borrow.Author.Tests.{ltb-true, ltb-false, leb-true, leb-false, eqb-true, eqb-false, lt-ltb, ne-eqb}
+use borrow.Author.Tests.{ltb-true, eqb-true, eqb-false, lt-ltb, ne-eqb}
 use Rattle.civil.specs.declared.Date.{Date}
 use Rattle.civil.specs.Calendar.{leap, monthDays, lost, dateExists, sameDate, lastJulian, next, dateOn}
 use Rattle.civil.specs.Serial.{marchYear, sinceMarch, before, yearDay, yearStart, gregorian, serialOf, epochSerial, lastJulianStamp, stamp}
-use Rattle.civil.proofs.Dates.{yearOf, dayOf, stampOf, real-of}
+use Rattle.civil.proofs.Dates.{yearOf, dayOf, real-of}
 use Rattle.civil.proofs.Next.{same-date, calendar}
 use Rattle.civil.proofs.Read.{is-date-on}
 use Rattle.iso.specs.Calendar.{isoMonthDays, isoExists, isoNext, isoEpoch, isoOn}

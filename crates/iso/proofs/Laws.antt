@@ -21,8 +21,8 @@ use Rattle.civil.proofs.Dates.{real-of, stampOf, placed, months, year-long, yea
 use Rattle.civil.proofs.Next.{calendar, date-counts}
 use Rattle.civil.proofs.Read.{tells-calendar}
 use Rattle.civil.proofs.Laws.{one-day, found, absent, counted, by-count, date-exists, julian-day}
-use Rattle.iso.specs.Calendar.{isoMonthDays, isoExists, isoNext, isoEpoch, isoOn, isoDayOf, isoDateOf}
-use Rattle.iso.proofs.Later.{roundDays, later, back, gregorianLeap, leap-late, leap-round, exists-round, exists-kept, exists-later, on-next, year-low, on-later, late-calendar, gregorianCount, count-gregorian, serial-later, on-count}
+use Rattle.iso.specs.Calendar.{isoMonthDays, isoExists, isoNext, isoOn, isoDayOf, isoDateOf}
+use Rattle.iso.proofs.Later.{roundDays, later, gregorianLeap, leap-late, leap-round, exists-round, exists-kept, exists-later, on-next, year-low, on-later, late-calendar, gregorianCount, count-gregorian, serial-later, on-count}
 
 -- leap years are those divisible by 4, without the centuries not divisible by 400: in every year, 0 included
 pub iso-february : (y : ℕ) → isoMonthDays y 2 ≡ 28 + cond (gregorianLeap y) 1 0

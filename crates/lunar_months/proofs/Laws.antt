@@ -1,7 +1,7 @@
 -- The laws beside a row: exactly the days on which a month starts, each once, earliest first; a row extended in any
 -- steps is the row made at once; and on such a row the month of a day is the day's.
 -- By the joining of runs of days, and of what is put into a list. Assumes nothing.
-use mathlib.Core.List.{List, [], _∷_, _++_}
+use mathlib.Core.List.{List, [], _∷_}
 use mathlib.Core.Path.{_≡_, refl, sym, ap, ap₂, _∙_}
 use mathlib.Core.Bool.{true}
 use Prim.Native.Nat.{ℕ, _+_, _/_, _≤_, _<_}

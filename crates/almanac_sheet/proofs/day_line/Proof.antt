@@ -1,8 +1,6 @@
 -- `day_line` meets its contract: a number that is a day has its record, and its line. Assumes nothing.
-use mathlib.Core.Path.{ap, _∙_}
 use borrow.Author.Needs.{needs}
 use Rattle.blocks.proofs.Numbers.{record-found}
-use Rattle.month_sheet.specs.MonthSheets.{recordLine}
 use Rattle.text.proofs.Holding.{nothing-held}
 use Rattle.almanac_sheet.proofs.Lines.{meant, no-day, a-day}
 use Rattle.almanac_sheet.proofs.day_line.Statement.{statement}

@@ -1,8 +1,6 @@
 -- `put_date` meets its contract: the line is copied from the byte on. Assumes nothing.
 use Rattle.date_lines.proofs.Lines.{date-made}
 use Rattle.date_lines.proofs.Putting.{room-for, put-made}
-use mathlib.Core.Path.{sym, ap, _∙_}
-use Rattle.date_lines.proofs.Lines.{date-length}
 use borrow.Author.Needs.{needs}
 use Rattle.date_lines.proofs.put_date.Statement.{statement}
 use Rattle.date_lines.proofs.put_date.Tie as tie

@@ -1,5 +1,4 @@
 -- `put_line` meets its contract: by the kind. Assumes nothing.
-use mathlib.Core.Path.{sym, ap, _∙_}
 use borrow.Author.Needs.{needs}
 use Rattle.date_lines.proofs.put_line.Statement.{statement}
 use Rattle.date_lines.proofs.put_line.Tie as tie

@@ -5,7 +5,7 @@ use lib.Seq.{length-take-le}
 use Rattle.text.proofs.Holding.{holds-within}
 use Rattle.date_lines.proofs.Lines.{number-made}
 use Rattle.date_lines.proofs.Putting.{room-for, put-made}
-use mathlib.Core.Path.{sym, ap, _∙_}
+use mathlib.Core.Path.{sym, ap}
 use borrow.Author.Needs.{needs}
 use Rattle.date_lines.proofs.put_number.Statement.{statement}
 use Rattle.date_lines.proofs.put_number.Tie as tie

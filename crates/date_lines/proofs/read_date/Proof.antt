@@ -1,5 +1,5 @@
 -- `read_date` meets its contract: each test is one of the form's. Assumes nothing.
-use mathlib.Core.Path.{sym, ap, _∙_}
+use mathlib.Core.Path.{_∙_}
 use Rattle.date_lines.proofs.Lines.{other-length, no-first-dash, no-second-dash, no-newline, no-digits, digits}
 use borrow.Author.Needs.{needs}
 use Rattle.date_lines.proofs.read_date.Statement.{statement}

@@ -1,5 +1,4 @@
 -- `read_line` meets its contract: by the kind. Assumes nothing.
-use mathlib.Core.Path.{sym, ap, _∙_}
 use Rattle.date_lines.specs.Lines.{lineRead}
 use borrow.Author.Needs.{needs}
 use Rattle.date_lines.proofs.read_line.Statement.{statement}

@@ -1,5 +1,5 @@
 -- `read_number` meets its contract: 3 is told as 15. Assumes nothing.
-use mathlib.Core.Path.{sym, _∙_}
+use mathlib.Core.Path.{_∙_}
 use borrow.Author.Tests.{eq-eqb, ne-eqb}
 use Rattle.date_lines.specs.Lines.{numberLineRead}
 use borrow.Author.Needs.{needs}

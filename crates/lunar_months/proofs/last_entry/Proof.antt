@@ -1,7 +1,6 @@
 -- `last_entry` meets its contract. The loop's invariant is `Looking`; the measure is the bytes left.
 use borrow.Author.Needs.{needs}
 use mathlib.Core.Path.{_∙_}
-use native.Mathlib.Omega.{arith}
 use Rattle.lunar_months.proofs.Latest.{Looking, looking-start, looking-here, looking-on, looking-end, entry-bytes}
 use Rattle.lunar_months.proofs.last_entry.Statement.{statement}
 use Rattle.lunar_months.proofs.last_entry.Tie as tie
