@@ -2,17 +2,19 @@
 -- two tests in their order.
 -- Assumes nothing.
 use mathlib.Core.Bool.{Bool, true, false, cond}
-use mathlib.Core.Path.{_≡_, refl, ap, _∙_}
-use Prim.Native.Nat.{ℕ}
+use mathlib.Core.Path.{_≡_, refl, sym, ap, _∙_}
+use Prim.Native.Nat.{ℕ, _%_}
 use native.Mathlib.Omega.{arith}
 use Rattle.days.specs.declared.Day.{Day}
 use Rattle.days.specs.declared.NumberAnswer.{NumberAnswer}
 use Rattle.days.specs.Refusals.{accepted}
 use Rattle.days.specs.Days.{inRange, theNumber, noNumber, onDay}
 use Rattle.days.proofs.Laws.{given, refused}
+use Rattle.longitudes.specs.Longitudes.{circle, longitudeAt}
+use Rattle.longitudes.proofs.Table.{longitude-small}
 use Rattle.panchanga.specs.declared.Panchanga.{Panchanga}
 use Rattle.panchanga.specs.TrueLongitudes.{firstEdition, isEdition}
-use Rattle.panchanga.specs.OnDays.{trueSunAt, trueMoonAt, tithiAt, nakshatraAt, yogaAt, karanaAt, noPanchanga, panchangaOf, inEdition}
+use Rattle.panchanga.specs.OnDays.{trueSunAt, trueMoonAt, tithiAt, nakshatraAt, yogaAt, karanaAt, noPanchanga, panchangaOf, panchangaBy, tithiBy, inEdition}
 use Rattle.panchanga.specs.Parts.{refusalFor}
 
 -- both tests
@@ -48,6 +50,18 @@ module _ (e : ℕ) (d : Day) where
   pub elements-given : Accepted e d → panchangaOf e d ≡ record { refusal = 0; sun = trueSunAt d; moon = trueMoonAt e d; tithi = tithiAt e d; nakshatra = nakshatraAt e d; yoga = yogaAt e d; karana = karanaAt e d }
   unfolding panchangaOf
   elements-given a = rw (a .edition, a .range)
+
+  -- and by the day's mean Sun, Moon and apogee
+  whole : (b : ℕ) → longitudeAt b d % circle ≡ longitudeAt b d
+  whole b = omega (arith, longitude-small b d)
+
+  pub elements-by-means : Accepted e d → panchangaBy e (longitudeAt 0 d) (longitudeAt 1 d) (longitudeAt 2 d) ≡ panchangaOf e d
+  unfolding panchangaBy trueSunAt trueMoonAt tithiAt nakshatraAt yogaAt karanaAt
+  elements-by-means a = rw (a .edition, whole 0, whole 1, whole 2) (sym (elements-given a))
+
+  pub tithi-by-means : isEdition e ≡ true → tithiBy e (longitudeAt 0 d) (longitudeAt 1 d) (longitudeAt 2 d) ≡ theNumber (tithiAt e d)
+  unfolding tithiBy trueSunAt trueMoonAt tithiAt
+  tithi-by-means t = rw (t, whole 0, whole 1, whole 2)
 
   pub elements-refused : (refusalFor e d ≡ accepted → ⊥) → panchangaOf e d ≡ noPanchanga (refusalFor e d)
   unfolding panchangaOf refusalFor

@@ -2,13 +2,13 @@
 -- What hangs on the Moon is of an edition.
 -- Assumes nothing.
 use mathlib.Core.Bool.{cond}
-use Prim.Native.Nat.{ℕ}
+use Prim.Native.Nat.{ℕ, _%_}
 use Rattle.days.specs.declared.Day.{Day}
 use Rattle.days.specs.declared.NumberAnswer.{NumberAnswer}
 use Rattle.days.specs.Refusals.{accepted, outOfRange, badEdition}
-use Rattle.days.specs.Days.{inRange, noNumber, onDay}
+use Rattle.days.specs.Days.{inRange, theNumber, noNumber, onDay}
 use Rattle.longitudes.specs.declared.Body.the-variants.{Sun, Moon, MoonApogee}
-use Rattle.longitudes.specs.Longitudes.{longitudeAt}
+use Rattle.longitudes.specs.Longitudes.{circle, longitudeAt}
 use Rattle.longitudes.specs.Answers.{bodyNumber}
 use Rattle.panchanga.specs.declared.Panchanga.{Panchanga}
 use Rattle.panchanga.specs.TrueLongitudes.{trueSun, isEdition, trueMoon}
@@ -45,9 +45,27 @@ panchangaOf e d =
     (noPanchanga outOfRange))
     (noPanchanga badEdition)
 
+-- the true Sun and Moon with their elements
+abbrev pub thePanchanga : ℕ → ℕ → Panchanga
+thePanchanga s m = record { refusal = accepted; sun = s; moon = m; tithi = tithi s m; nakshatra = nakshatra m; yoga = yoga s m; karana = karana s m }
+
+-- all of them by the mean Sun, Moon and apogee, each less its whole circles; refusal 14 for another edition
+unfoldable pub panchangaBy : ℕ → ℕ → ℕ → ℕ → Panchanga
+panchangaBy e sun moon apogee =
+    cond (isEdition e)
+    (thePanchanga (trueSun (sun % circle)) (trueMoon e (sun % circle) (apogee % circle) (moon % circle)))
+    (noPanchanga badEdition)
+
 -- a number of a day in an edition; refusal 14 for another edition, then 2
 unfoldable pub inEdition : (ℕ → Day → ℕ) → ℕ → Day → NumberAnswer
 inEdition f e d = cond (isEdition e) (onDay (f e) d) (noNumber badEdition)
+
+-- the tithi alone by the mean Sun, Moon and apogee
+unfoldable pub tithiBy : ℕ → ℕ → ℕ → ℕ → NumberAnswer
+tithiBy e sun moon apogee =
+    cond (isEdition e)
+    (theNumber (tithi (trueSun (sun % circle)) (trueMoon e (sun % circle) (apogee % circle) (moon % circle))))
+    (noNumber badEdition)
 
 abbrev pub trueSunOf : Day → NumberAnswer
 trueSunOf d = onDay trueSunAt d

@@ -7,14 +7,14 @@ use longitudes::Body;
 use longitudes::CIRCLE;
 ghost use mathlib.Core.Path.{_≡_};
 ghost use mathlib.Core.Bool.{true};
-ghost use Prim.Native.Nat.{_/_, _<_, _≤_};
+ghost use Prim.Native.Nat.{_/_, _%_, _<_, _≤_};
 ghost use Rattle.days.specs.Days.{inRange};
-ghost use Rattle.longitudes.specs.Longitudes.{longitudeAt};
+ghost use Rattle.longitudes.specs.Longitudes.{circle, longitudeAt};
 ghost use Rattle.longitudes.specs.Answers.{bodyNumber};
-ghost use Rattle.panchanga.specs.TrueLongitudes.{bhuja, bhujaProduct, equation, corrected, trueLongitude, sunAnomaly, sunEquation, isEdition};
+ghost use Rattle.panchanga.specs.TrueLongitudes.{bhuja, bhujaProduct, equation, corrected, trueLongitude, sunAnomaly, sunEquation, trueSun, trueMoon, isEdition};
 ghost use Rattle.panchanga.specs.Elements.{tithi, nakshatra, yoga, karana, karanaAfter};
-ghost use Rattle.panchanga.specs.OnDays.{trueSunAt, trueMoonAt, trueSunOf, trueMoonOf, tithiOf, nakshatraOf, yogaOf, karanaOf, noPanchanga, panchangaOf};
-ghost use Rattle.panchanga.specs.Parts.{moonAloneAt, refusalFor};
+ghost use Rattle.panchanga.specs.OnDays.{trueSunAt, trueMoonAt, trueSunOf, trueMoonOf, tithiOf, nakshatraOf, yogaOf, karanaOf, noPanchanga, thePanchanga, panchangaOf, panchangaBy, tithiBy};
+ghost use Rattle.panchanga.specs.Parts.{moonAloneAt, moonIn, refusalFor};
 
 // Sun and Moon are true longitudes; a refusal has all zeros.
 pub struct Panchanga {
@@ -141,17 +141,25 @@ fn moon_alone_on(day: Day) -> u32
     true_longitude(MOON_SCALE, MOON_DIVISOR, apogee, mean)
 }
 
-// An edition's Moon, of the Moon with its own equation. (That comes as a parameter, so that the compiler lays its
-// reckoning open in each call and leaves this out, which edition 1 does not need.)
-fn moon_on(edition: u32, moon: u32, day: Day) -> u32
-    requires { ⌜ (inRange day ≡ true) × ((moon ≡ moonAloneAt day) × (moon < 1296000)) ⌝ }
-    ensures { λ r. ⌜ (r ≡ trueMoonAt edition day) × (r < 1296000) ⌝ }
+// An edition's Moon, of the Moon with its own equation, by the mean Sun.
+fn moon_in(edition: u32, moon: u32, sun: u32) -> u32
+    requires { ⌜ (moon < 1296000) × (sun < 1296000) ⌝ }
+    ensures { λ r. ⌜ (r ≡ moonIn edition moon sun) × (r < 1296000) ⌝ }
 {
     if edition != SECOND_EDITION {
         return moon;
     }
-    let sun = mean_on(Body::Sun, day);
     with_sun_share(moon, sun)
+}
+
+// The same on a day. (The Moon comes as a parameter, so that the compiler lays its reckoning open in each call and
+// leaves this out, which edition 1 does not need.)
+fn moon_on(edition: u32, moon: u32, day: Day) -> u32
+    requires { ⌜ (inRange day ≡ true) × ((moon ≡ moonAloneAt day) × (moon < 1296000)) ⌝ }
+    ensures { λ r. ⌜ (r ≡ trueMoonAt edition day) × (r < 1296000) ⌝ }
+{
+    let sun = mean_on(Body::Sun, day);
+    moon_in(edition, moon, sun)
 }
 
 fn tithi_of(sun: u32, moon: u32) -> u32
@@ -220,15 +228,11 @@ fn refused(refusal: u32) -> Panchanga
     }
 }
 
-pub fn of_day(edition: u32, day: Day) -> Panchanga
-    ensures { λ r. ⌜ r ≡ panchangaOf edition day ⌝ }
+// The elements of the true Sun and Moon.
+fn elements_of(sun: u32, moon: u32) -> Panchanga
+    requires { ⌜ (sun < 1296000) × (moon < 1296000) ⌝ }
+    ensures { λ r. ⌜ r ≡ thePanchanga sun moon ⌝ }
 {
-    let refusal = refusal_for(edition, day);
-    if refusal != refusal::NONE {
-        return refused(refusal);
-    }
-    let sun = sun_on(day);
-    let moon = moon_on(edition, moon_alone_on(day), day);
     let tithi = tithi_of(sun, moon);
     let nakshatra = nakshatra_of(moon);
     let yoga = yoga_of(sun, moon);
@@ -242,6 +246,56 @@ pub fn of_day(edition: u32, day: Day) -> Panchanga
         yoga,
         karana,
     }
+}
+
+pub fn of_day(edition: u32, day: Day) -> Panchanga
+    ensures { λ r. ⌜ r ≡ panchangaOf edition day ⌝ }
+{
+    let refusal = refusal_for(edition, day);
+    if refusal != refusal::NONE {
+        return refused(refusal);
+    }
+    let sun = sun_on(day);
+    let moon = moon_on(edition, moon_alone_on(day), day);
+    elements_of(sun, moon)
+}
+
+// The true Sun and Moon by the mean ones and the apogee, of which whole circles count for nothing.
+fn sun_by(sun: u32) -> u32
+    ensures { λ r. ⌜ (r ≡ trueSun (sun % circle)) × (r < 1296000) ⌝ }
+{
+    true_longitude(SUN_SCALE, SUN_DIVISOR, SUN_APOGEE, sun % CIRCLE)
+}
+
+fn moon_by(edition: u32, sun: u32, moon: u32, apogee: u32) -> u32
+    ensures { λ r. ⌜ (r ≡ trueMoon edition (sun % circle) (apogee % circle) (moon % circle)) × (r < 1296000) ⌝ }
+{
+    let alone = true_longitude(MOON_SCALE, MOON_DIVISOR, apogee % CIRCLE, moon % CIRCLE);
+    moon_in(edition, alone, sun % CIRCLE)
+}
+
+// The same as of a day, by its mean longitudes, for a caller that has reckoned them.
+pub fn of_means(edition: u32, sun: u32, moon: u32, apogee: u32) -> Panchanga
+    ensures { λ r. ⌜ r ≡ panchangaBy edition sun moon apogee ⌝ }
+{
+    if !is_edition(edition) {
+        return refused(refusal::BAD_EDITION);
+    }
+    let true_sun = sun_by(sun);
+    let true_moon = moon_by(edition, sun, moon, apogee);
+    elements_of(true_sun, true_moon)
+}
+
+// The tithi alone by the means: a caller that goes over days one after another spares the test of each.
+pub fn tithi_of_means(edition: u32, sun: u32, moon: u32, apogee: u32) -> NumberAnswer
+    ensures { λ r. ⌜ r ≡ tithiBy edition sun moon apogee ⌝ }
+{
+    if !is_edition(edition) {
+        return NumberAnswer::refused(refusal::BAD_EDITION);
+    }
+    let true_sun = sun_by(sun);
+    let true_moon = moon_by(edition, sun, moon, apogee);
+    NumberAnswer::accepted(tithi_of(true_sun, true_moon))
 }
 
 pub fn true_sun(day: Day) -> NumberAnswer

@@ -1,7 +1,7 @@
--- `of_day` meets its contract: the refusal tells which answer it is, and each element has its call.
+-- `of_day` meets its contract: the refusal tells which answer it is, and the elements are those of the true Sun and Moon.
 use borrow.Author.Needs.{needs}
-use mathlib.Core.Path.{sym, ap, _∙_}
-use Rattle.panchanga.specs.OnDays.{tithiAt, nakshatraAt, yogaAt, karanaAt, noPanchanga}
+use mathlib.Core.Path.{sym, ap, ap₂, _∙_}
+use Rattle.panchanga.specs.OnDays.{tithiAt, nakshatraAt, yogaAt, karanaAt, noPanchanga, thePanchanga}
 use Rattle.panchanga.proofs.Answers.{Accepted, accepted-for, elements-given, elements-refused}
 use Rattle.panchanga.proofs.of_day.Statement.{statement}
 use Rattle.panchanga.proofs.of_day.Tie as tie
@@ -29,23 +29,15 @@ moon-alone-on-requires c κs = known (c .before) .range
 moon-on-requires : tie.Need-moon-on-requires
 moon-on-requires c κs = (known (c .before .before) .range, c .moon-alone-on .ensures)
 
-tithi-of-requires : tie.Need-tithi-of-requires
-tithi-of-requires c κs = search needs
-
-nakshatra-of-requires : tie.Need-nakshatra-of-requires
-nakshatra-of-requires c κs = search needs
-
-yoga-of-requires : tie.Need-yoga-of-requires
-yoga-of-requires c κs = search needs
-
-karana-of-requires : tie.Need-karana-of-requires
-karana-of-requires c κs = search needs
+elements-of-requires : tie.Need-elements-of-requires
+elements-of-requires c κs = search needs
 
 returns-2 : tie.Need-returns-2
 unfolding tithiAt nakshatraAt yogaAt karanaAt
 returns-2 c =
-    rw (c .karana-of .ensures, c .before .yoga-of .ensures, c .before .before .nakshatra-of .ensures, c .before .before .before .tithi-of .ensures, c .before .before .before .before .moon-on .ensures .0, c .before .before .before .before .before .before .sun-on .ensures .0)
-    (sym (elements-given _ _ (known (c .before .before .before .before .before .before .before))))
+    c .elements-of .ensures
+    ∙ ap₂ thePanchanga (c .before .before .before .sun-on .ensures .0) (c .before .moon-on .ensures .0)
+    ∙ sym (elements-given _ _ (known (c .before .before .before .before)))
 
 pub of-day-spec : {M : Type 1} → statement M
 of-day-spec =
@@ -57,8 +49,5 @@ of-day-spec =
     sun-on-requires
     moon-alone-on-requires
     moon-on-requires
-    tithi-of-requires
-    nakshatra-of-requires
-    yoga-of-requires
-    karana-of-requires
+    elements-of-requires
     returns-2)
