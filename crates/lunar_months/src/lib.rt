@@ -2,12 +2,14 @@
 use days::Day;
 use days::refusal;
 use entries::ENTRY_BYTES;
+use longitudes::Body;
 use panchanga::is_edition;
 ghost use mathlib.Core.Path.{_≡_};
 ghost use mathlib.Core.Bool.{true};
 ghost use Prim.Native.Nat.{_+_, _/_, _≤_, _<_};
-ghost use Rattle.days.specs.Days.{lastDay};
+ghost use Rattle.days.specs.Days.{lastDay, inRange};
 ghost use Rattle.entries.specs.Entries.{capacity, withEntriesFrom};
+ghost use Rattle.longitudes.specs.Longitudes.{longitudeAt};
 ghost use Rattle.panchanga.specs.TrueLongitudes.{isEdition};
 ghost use Rattle.lunar_months.specs.MonthStarts.{tithiOn, monthStarts, monthOn, monthNumbers};
 ghost use Rattle.lunar_months.specs.Rows.{theRow, noRow, newRow, isCovered, extendedBy, listAfter, lastEntry, monthAt};
@@ -45,6 +47,13 @@ pub struct MonthNumbers {
     pub number: usize,
 }
 
+// A day's mean longitudes that a tithi is made of.
+struct Means {
+    sun: u32,
+    moon: u32,
+    apogee: u32,
+}
+
 // The month starts found among some days: how many, and the latest, or 0.
 struct Added {
     count: u32,
@@ -76,12 +85,29 @@ impl MonthAt {
     }
 }
 
+// The means by themselves, called from one place: else the compiler leaves their reckoning out of line, with the table
+// in memory.
+fn means_on(day: Day) -> Means
+    requires { ⌜ inRange day ≡ true ⌝ }
+    ensures { λ r. ⌜ r ≡ record { sun = longitudeAt 0 day; moon = longitudeAt 1 day; apogee = longitudeAt 2 day } ⌝ }
+{
+    let sun = longitudes::mean_longitude(Body::Sun, day);
+    let moon = longitudes::mean_longitude(Body::Moon, day);
+    let apogee = longitudes::mean_longitude(Body::MoonApogee, day);
+    Means {
+        sun: sun.seconds,
+        moon: moon.seconds,
+        apogee: apogee.seconds,
+    }
+}
+
+// By the means, and not by `panchanga::tithi`, whose tests of edition and day each day of a long row would pay for.
 fn tithi_on(edition: u32, day: u32) -> u32
     requires { ⌜ (isEdition edition ≡ true) × (day ≤ lastDay) ⌝ }
     ensures { λ r. ⌜ r ≡ tithiOn edition day ⌝ }
 {
-    let answer = Day::from_number(day);
-    panchanga::tithi(edition, answer.day).number
+    let means = means_on(Day::at(day));
+    panchanga::tithi_of_means(edition, means.sun, means.moon, means.apogee).number
 }
 
 // Finds the month starts among the days behind the covered ones and puts them into the list from an entry on, as many

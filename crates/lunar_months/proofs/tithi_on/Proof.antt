@@ -1,24 +1,24 @@
--- `tithi_on` meets its contract: the pair is the day's, and in range.
+-- `tithi_on` meets its contract: the pair is the day's, and in range, so that its means are its own.
 use borrow.Author.Needs.{needs}
-use mathlib.Core.Path.{ap, _∙_}
-use Rattle.days.specs.declared.DayAnswer.{DayAnswer}
-use Rattle.days.proofs.Laws.{day-of, pair-in-range}
-use Rattle.panchanga.specs.OnDays.{tithiAt, inEdition}
-use Rattle.panchanga.proofs.Answers.{given-in}
+use Rattle.days.proofs.Laws.{pair-in-range}
+use Rattle.panchanga.proofs.Answers.{tithi-by-means}
 use Rattle.lunar_months.proofs.tithi_on.Statement.{statement}
 use Rattle.lunar_months.proofs.tithi_on.Tie as tie
 
-from-number-requires : tie.Need-from-number-requires
-from-number-requires c κs = search needs
+at-requires : tie.Need-at-requires
+at-requires c κs = search needs
 
-tithi-requires : tie.Need-tithi-requires
-tithi-requires c κs = search needs
+means-on-requires : tie.Need-means-on-requires
+means-on-requires c κs = rw (c .at .ensures) (pair-in-range _ (c .before .pre .1))
+
+tithi-of-means-requires : tie.Need-tithi-of-means-requires
+tithi-of-means-requires c κs = search needs
 
 returns : tie.Need-returns
 returns c =
-    let start = c .before .before in
-    let pair = ap (λ (a : DayAnswer). a .day) (c .before .from-number .ensures ∙ day-of _ (start .pre .1)) in
-    given-in tithiAt _ _ (c .tithi .ensures ∙ ap (inEdition tithiAt _) pair) (start .pre .0) (pair-in-range _ (start .pre .1))
+    let start = c .before .before .before in
+    rw (c .tithi-of-means .ensures, c .before .means-on .ensures, c .before .before .at .ensures, tithi-by-means _ _ (start .pre .0))
 
 pub tithi-on-spec : {M : Type 1} → statement M
-tithi-on-spec = tie.close (tie.spec from-number-requires tithi-requires returns)
+tithi-on-spec =
+    tie.close (tie.spec at-requires means-on-requires tithi-of-means-requires returns)
