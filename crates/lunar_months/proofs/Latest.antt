@@ -3,7 +3,7 @@
 use mathlib.Core.Bool.{Bool, true, false, cond}
 use mathlib.Core.List.{List, [], _∷_}
 use mathlib.Core.Path.{_≡_, refl, sym, ap, ap₂, _∙_}
-use Prim.Native.Nat.{ℕ, zero, suc, _+_, _-_, _*_, _/_, _≤_, _<_}
+use Prim.Native.Nat.{ℕ, zero, suc, _+_, _-_, _*_, _≤_, _<_}
 use native.Mathlib.Omega.{arith}
 use lib.Dec.{leb}
 use lib.ListN.{length, getD}
@@ -66,42 +66,34 @@ pub no-entry : (list : List ℕ) (day k : ℕ) → k ≤ 0 → lastEntry list da
 unfolding lastEntry
 no-entry list day k h = let z : k ≡ 0 = omega arith in ap (lastEntry list day) z
 
--- the four bytes in front of `rest` are the last entry of those that are left
+-- an entry by its four bytes
 pub entry-bytes :
-    (list : List ℕ) (rest : ℕ) →
-    0 < rest →
-    rest ≡ 4 * (rest / 4) →
-    entryDay (getD list (rest - 4) 0 ∷ getD list (rest - 4 + 1) 0 ∷ getD list (rest - 4 + 2) 0 ∷ getD list (rest - 4 + 3) 0 ∷ []) 0
-    ≡ entryDay list (rest / 4 - 1)
+    (list : List ℕ) (k : ℕ) →
+    entryDay (getD list (4 * k) 0 ∷ getD list (4 * k + 1) 0 ∷ getD list (4 * k + 2) 0 ∷ getD list (4 * k + 3) 0 ∷ []) 0
+    ≡ entryDay list k
 unfolding entryDay
-entry-bytes list rest h w = let e : 4 * (rest / 4 - 1) ≡ rest - 4 = omega arith in rw e
+entry-bytes list k = refl
 
--- of the row's bytes `rest` are left, whole entries, and those behind them are after the day
-pub record Looking (list : List ℕ) (starts day rest : ℕ) : Type 0 where
-  pub whole : rest ≡ 4 * (rest / 4)
-  pub most : rest ≤ 4 * starts
-  pub meant : lastEntry list day (rest / 4) ≡ lastEntry list day starts
+-- of the row's entries `number` are left, and those behind them are after the day
+pub record Looking (list : List ℕ) (starts day number : ℕ) : Type 0 where
+  pub most : number ≤ starts
+  pub meant : lastEntry list day number ≡ lastEntry list day starts
 
 module _ (list : List ℕ) (starts day : ℕ) where
-  pub looking-start : Looking list starts day (4 * starts)
-  looking-start = record { whole = omega arith; most = omega arith; meant = ap (lastEntry list day) (omega arith) }
+  pub looking-start : Looking list starts day starts
+  looking-start = record { most = omega arith; meant = refl }
 
-  module _ (rest : ℕ) (l : Looking list starts day rest) where
-    module _ (more : 0 < rest) (start : ℕ) (e : start ≡ entryDay list (rest / 4 - 1)) where
-      pub looking-here : start ≤ day → Start start (rest / 4) ≡ lastEntry list day starts
-      looking-here h = rw e (sym (entry-here list day (rest / 4) (omega (arith, l .whole)) (omega arith)) ∙ l .meant)
+  module _ (number : ℕ) (l : Looking list starts day number) where
+    module _ (more : 0 < number) (start : ℕ) (e : start ≡ entryDay list (number - 1)) where
+      pub looking-here : start ≤ day → Start start number ≡ lastEntry list day starts
+      looking-here h = rw e (sym (entry-here list day number more (omega arith)) ∙ l .meant)
 
-      pub looking-on : day < start → Looking list starts day (rest - 4)
+      pub looking-on : day < start → Looking list starts day (number - 1)
       looking-on h =
-          let next : (rest - 4) / 4 ≡ rest / 4 - 1 = omega (arith, l .whole) in
-          record {
-            whole = omega (arith, l .whole);
-            most = omega (arith, l .most);
-            meant = ap (lastEntry list day) next ∙ sym (entry-after list day (rest / 4) (omega (arith, l .whole)) (omega arith)) ∙ l .meant;
-          }
+          record { most = omega (arith, l .most); meant = sym (entry-after list day number more (omega arith)) ∙ l .meant }
 
-    pub looking-end : rest ≤ 0 → NoStart ≡ lastEntry list day starts
-    looking-end h = sym (no-entry list day (rest / 4) (omega arith)) ∙ l .meant
+    pub looking-end : number ≤ 0 → NoStart ≡ lastEntry list day starts
+    looking-end h = sym (no-entry list day number h) ∙ l .meant
 
 -- its place is one of them
 pub last-most : (list : List ℕ) (day k : ℕ) → monthNumbers (lastEntry list day k) .number ≤ k

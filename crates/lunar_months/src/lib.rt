@@ -149,21 +149,18 @@ fn last_entry(list: &[u8], starts: usize, day: u32) -> MonthAt
     requires { ⌜ starts ≤ capacity (now list) ⌝ }
     ensures { λ r. ⌜ r ≡ lastEntry (now (list .entry)) day starts ⌝ }
 {
-    let mut rest = ENTRY_BYTES * starts;
-    while 0 < rest {
-        let at = rest - ENTRY_BYTES;
+    let mut number = starts;
+    while 0 < number {
+        let at = ENTRY_BYTES * (number - 1);
         let a = list[at];
         let b = list[at + 1];
         let c = list[at + 2];
         let d = list[at + 3];
         let start = entries::day_of([a, b, c, d]);
         if start <= day {
-            return MonthAt::Start {
-                day: start,
-                number: rest / ENTRY_BYTES,
-            };
+            return MonthAt::Start { day: start, number };
         }
-        rest = at;
+        number -= 1;
     }
     MonthAt::NoStart
 }

@@ -1,4 +1,4 @@
--- `last_entry` meets its contract. The loop's invariant is `Looking`; the measure is the bytes left.
+-- `last_entry` meets its contract. The loop's invariant is `Looking`; the measure is the entries left.
 use borrow.Author.Needs.{needs}
 use mathlib.Core.Path.{_∙_}
 use Rattle.lunar_months.proofs.Latest.{Looking, looking-start, looking-here, looking-on, looking-end, entry-bytes}
@@ -6,19 +6,19 @@ use Rattle.lunar_months.proofs.last_entry.Statement.{statement}
 use Rattle.lunar_months.proofs.last_entry.Tie as tie
 
 abbrev Inv-loop : tie.InvT-loop
-Inv-loop list starts day rest₀ rest = Looking list starts day rest
+Inv-loop list starts day number₀ number = Looking list starts day number
 
 abbrev μ-loop : tie.MeasureT-loop
-μ-loop list starts day rest₀ rest = rest
-
-mul-rest : tie.Need-mul-rest Inv-loop μ-loop
-mul-rest c = search needs
+μ-loop list starts day number₀ number = number
 
 loop-holds : tie.Need-loop-holds Inv-loop μ-loop
 loop-holds c = looking-start _ _ _
 
 sub-at : tie.Need-sub-at Inv-loop μ-loop
 sub-at c = search needs
+
+mul-at : tie.Need-mul-at Inv-loop μ-loop
+mul-at c = search needs
 
 shared-slice-read-a : tie.Need-shared-slice-read-a Inv-loop μ-loop
 shared-slice-read-a c = search needs
@@ -48,8 +48,11 @@ returns : tie.Need-returns Inv-loop μ-loop
 returns c =
     let at = c .before .before .before .before .before .before in
     let inv = at .before .loop .inv in
-    let start = c .before .day-of .ensures ∙ entry-bytes _ _ (at .loop-test .taken) (inv .whole) in
+    let start = c .before .day-of .ensures ∙ entry-bytes _ _ in
     looking-here _ _ _ _ inv (at .loop-test .taken) _ start (c .if1 .taken)
+
+sub-number : tie.Need-sub-number Inv-loop μ-loop
+sub-number c = search needs
 
 loop-less : tie.Need-loop-less Inv-loop μ-loop
 loop-less c = search needs
@@ -58,7 +61,7 @@ loop-again : tie.Need-loop-again Inv-loop μ-loop
 loop-again c =
     let at = c .before .before .before .before .before .before in
     let inv = at .before .loop .inv in
-    let start = c .before .day-of .ensures ∙ entry-bytes _ _ (at .loop-test .taken) (inv .whole) in
+    let start = c .before .day-of .ensures ∙ entry-bytes _ _ in
     looking-on _ _ _ _ inv (at .loop-test .taken) _ start (c .if1 .left)
 
 returns-2 : tie.Need-returns-2 Inv-loop μ-loop
@@ -70,9 +73,9 @@ last-entry-spec =
     (tie.spec
     Inv-loop
     μ-loop
-    mul-rest
     loop-holds
     sub-at
+    mul-at
     shared-slice-read-a
     add-b
     shared-slice-read-b
@@ -82,6 +85,7 @@ last-entry-spec =
     shared-slice-read-d
     day-of-requires
     returns
+    sub-number
     loop-less
     loop-again
     returns-2)
