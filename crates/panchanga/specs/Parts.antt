@@ -1,4 +1,4 @@
--- What only contracts of private functions speak of: the Moon of a day before its edition is asked for, what the edition
+-- What only contracts of private functions speak of: the Moon of a day before its edition is asked for, what an edition
 -- makes of it, and the refusal of a call for an edition and a day.
 -- Assumes nothing.
 use mathlib.Core.Bool.{cond}

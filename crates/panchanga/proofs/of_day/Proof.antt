@@ -1,4 +1,4 @@
--- `of_day` meets its contract: the refusal tells which answer it is, and the elements are those of the true Sun and Moon.
+-- `of_day` meets its contract: the refusal tells which answer it is, and the elements are of the true Sun and Moon.
 use borrow.Author.Needs.{needs}
 use mathlib.Core.Path.{sym, ap, ap₂, _∙_}
 use Rattle.panchanga.specs.OnDays.{tithiAt, nakshatraAt, yogaAt, karanaAt, noPanchanga, thePanchanga}

@@ -1,4 +1,4 @@
--- `tithi_of_means` meets its contract: the edition decides, and the tithi is that of the true Sun and Moon by the means.
+-- `tithi_of_means` meets its contract: the edition decides, and the tithi is of the true Sun and Moon by the means.
 use borrow.Author.Needs.{needs}
 use borrow.Author.Tests.{not-true, not-false}
 use mathlib.Core.Path.{sym, ap, _∙_}
