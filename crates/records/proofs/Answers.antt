@@ -6,6 +6,7 @@ use mathlib.Core.Bool.{Bool, true, false, _&&_}
 use mathlib.Core.List.{List, [], _∷_, map}
 use Prim.Native.Nat.{ℕ, zero, suc, _≤_, _<_}
 use native.Mathlib.Nat.{not-suc-le-zero, le-of-suc-le-suc, zero-lt-suc, suc-le-suc-iff}
+use native.Mathlib.Omega.{arith}
 use lib.Dec.{leb}
 use lib.ListN.{length, getD}
 use borrow.Author.Tests.{le-leb, lt-leb}
@@ -19,10 +20,11 @@ use Rattle.longitudes.specs.declared.MeanLongitude.{MeanLongitude}
 use Rattle.longitudes.specs.Longitudes.{table, longitudeAt, longitudesAt}
 use Rattle.longitudes.specs.Answers.{longitudeOf}
 use Rattle.longitudes.proofs.Answers.{longitude-given}
+use Rattle.longitudes.proofs.Table.{nine-at}
 use Rattle.panchanga.specs.declared.Panchanga.{Panchanga}
 use Rattle.panchanga.specs.TrueLongitudes.{isEdition}
-use Rattle.panchanga.specs.OnDays.{panchangaOf}
-use Rattle.panchanga.proofs.Answers.{elements-given}
+use Rattle.panchanga.specs.OnDays.{panchangaBy}
+use Rattle.panchanga.proofs.Answers.{Accepted, elements-given, elements-by-means}
 use Rattle.records.specs.declared.DayRecord.{DayRecord}
 use Rattle.records.specs.Records.{recordOn, refusedWith, recordOf, allDays, fillRefusal, filledAfter}
 
@@ -57,12 +59,13 @@ pub record-found :
     a ≡ dayOf n →
     w ≡ weekdayOf (a .day) →
     ls ≡ longitudesAt (a .day) →
-    p ≡ panchangaOf e (a .day) →
+    p ≡ panchangaBy e (getD ls 0 0) (getD ls 1 0) (getD ls 2 0) →
     record { day = n; weekday = w .number; longitudes = ls; sun = p .sun; moon = p .moon; tithi = p .tithi; nakshatra = p .nakshatra; yoga = p .yoga; karana = p .karana } ≡ recordOn e n
 unfolding recordOn
 record-found e n b h day weekday nine elements =
     let range = pair-in-range n h in
-    rw (elements, nine, weekday, day, day-of n h, given weekdayAt (pairAt n) range, count-pair n, elements-given e (pairAt n) (record { edition = b; range = range }))
+    let accepted : Accepted e (pairAt n) = record { edition = b; range = range } in
+    rw (elements, nine, weekday, day, day-of n h, given weekdayAt (pairAt n) range, count-pair n, nine-at 0 (pairAt n) (omega arith), nine-at 1 (pairAt n) (omega arith), nine-at 2 (pairAt n) (omega arith), elements-by-means e (pairAt n) accepted, elements-given e (pairAt n) accepted)
 
 -- ---- the single call
 module _ (e n : ℕ) where

@@ -79,7 +79,10 @@ fn filled(edition: u32, number: u32) -> DayRecord
     let day = answer.day;
     let weekday = day.weekday();
     let longitudes = nine_on(day);
-    let elements = panchanga::of_day(edition, day);
+    let sun = longitudes[0];
+    let moon = longitudes[1];
+    let apogee = longitudes[2];
+    let elements = panchanga::of_means(edition, sun, moon, apogee);
     DayRecord {
         day: number,
         weekday: weekday.number,
