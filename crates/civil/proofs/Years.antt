@@ -119,7 +119,7 @@ module _ (s : ℕ) where
   abbrev pub yearWithin : ℕ
   yearWithin = (4 * inCentury + 3) / 1461
 
-century-start : (c v : ℕ) → v < 100 → yearStart true (100 * c + v) ≡ 36524 * c + c / 4 + (365 * v + v / 4) + 5
+pub century-start : (c v : ℕ) → v < 100 → yearStart true (100 * c + v) ≡ 36524 * c + c / 4 + (365 * v + v / 4) + 5
 century-start c v h = sum _ _ _ _ _ (omega arith) (omega arith) (omega arith) (omega arith)
   where
     sum : (a b d e f : ℕ) → a ≡ 25 * c + e → b ≡ c → d ≡ f → e ≡ v / 4 → 365 * (100 * c + v) + a - b + d + 5 ≡ 36524 * c + f + (365 * v + e) + 5

@@ -5,19 +5,18 @@ use mathlib.Core.List.{List}
 use Prim.Native.Nat.{ℕ, _≤_, _<_}
 use native.Mathlib.Omega.{arith}
 use lib.ListN.{length, getD, take, length-append}
-use borrow.Author.Tests.{eq-eqb, ne-eqb, le-leb}
+use borrow.Author.Tests.{eq-eqb, ne-eqb}
 use Rattle.days.specs.declared.NumberAnswer.{NumberAnswer}
 use Rattle.days.specs.Refusals.{badInput, badLine}
-use Rattle.days.specs.Days.{lastDay, theNumber, noNumber}
+use Rattle.days.specs.Days.{theNumber, noNumber}
 use Rattle.text.specs.Decimal.{allDigits, valueOf, numberRead}
 use Rattle.text.specs.declared.Line.{Line}
 use Rattle.text.specs.Lines.{newline, lineCapacity, contents, Holds}
 use Rattle.text.proofs.Reading.{read-few}
 use Rattle.text.proofs.Printing.{digits-length}
 use Rattle.words.specs.Words.{dash}
-use Rattle.civil.specs.declared.DateAnswer.{DateAnswer}
-use Rattle.civil.specs.Answers.{theDate}
-use Rattle.iso.specs.Calendar.{isoOn, isoDayOf, isoDateOf}
+use Rattle.civil.specs.declared.Date.{Date}
+use Rattle.iso.specs.Calendar.{isoOn, isoDayOf}
 use Rattle.date_lines.specs.declared.Kind.the-variants.{Dates, Days}
 use Rattle.date_lines.specs.Lines.{dateDigits, isDateLine, dateIn, dateRead, dateLine, lineOf}
 
@@ -74,11 +73,9 @@ unfolding lineOf
 number-fits d h = simp length-append (omega (arith, digits-length 9 d (omega arith)))
 
 -- the line of a day, as it is made
-pub date-made : (d : ℕ) (dated : DateAnswer) (line : List ℕ) → d ≤ lastDay → dated ≡ isoDateOf d → line ≡ dateLine (dated .date) → line ≡ lineOf Dates d
-unfolding lineOf isoDateOf
-date-made d dated line h e k =
-    let given : dated ≡ theDate (isoOn d) = e ∙ rw (le-leb d lastDay h) in
-    k ∙ ap (λ (a : DateAnswer). dateLine (a .date)) given
+pub date-made : (d : ℕ) (date : Date) (line : List ℕ) → date ≡ isoOn d → line ≡ dateLine date → line ≡ lineOf Dates d
+unfolding lineOf
+date-made d date line e k = k ∙ ap dateLine e
 
 pub number-made : (d : ℕ) (line : Line) → Holds line (lineOf Days d) → take (line .len) (line .bytes) ≡ lineOf Days d
 unfolding contents

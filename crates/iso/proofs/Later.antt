@@ -5,13 +5,15 @@ use mathlib.Core.Path.{_≡_, refl, sym, ap, _∙_}
 use Prim.Native.Nat.{ℕ, zero, suc, _+_, _*_, _-_, _/_, _%_, _≤_, _<_}
 use native.Mathlib.Omega.{arith}
 use lib.Dec.{leb, ltb, eqb}
-use borrow.Author.Tests.{ltb-true, eqb-true, eqb-false, lt-ltb, ne-eqb}
+use borrow.Author.Tests.{ltb-true, eqb-true, eqb-false, lt-ltb, le-leb, ne-eqb}
 use Rattle.civil.specs.declared.Date.{Date}
 use Rattle.civil.specs.Calendar.{leap, monthDays, lost, dateExists, sameDate, lastJulian, next, dateOn}
-use Rattle.civil.specs.Serial.{marchYear, sinceMarch, before, yearDay, yearStart, gregorian, serialOf, epochSerial, lastJulianStamp, stamp}
+use Rattle.civil.specs.Serial.{marchYear, sinceMarch, before, yearDay, yearStart, gregorian, serialOf, epochSerial, gregorianSerial, lastJulianStamp, stamp}
+use Rattle.civil.proofs.Years.{century, inCentury, yearWithin, century-start, gregorian-year}
+use Rattle.civil.proofs.Months.{monthAt}
 use Rattle.civil.proofs.Dates.{yearOf, dayOf, real-of}
 use Rattle.civil.proofs.Next.{same-date, calendar}
-use Rattle.civil.proofs.Read.{is-date-on}
+use Rattle.civil.proofs.Read.{Read, is-date-on, read-day}
 use Rattle.iso.specs.Calendar.{isoMonthDays, isoExists, isoNext, isoEpoch, isoOn}
 
 -- the days of 400 Gregorian years
@@ -165,3 +167,42 @@ pub on-count : (n : ℕ) (x : Date) → 1182 < x .year → isoExists x ≡ true 
 on-count n x h e k =
     let r = real-of (later x) (exists-later x h ∙ e) in
     back (sym (is-date-on (n + roundDays) (later x) (record { real = r; counted = serial-later x h ∙ omega arith }) ∙ on-later n))
+
+-- day d's date as it is read from the day 146,097 later, which is Gregorian
+module _ (d : ℕ) where
+  -- its days from 1 March of the year counted as 0, and of them the year and the day in that year
+  abbrev since : ℕ
+  since = d + 847390
+
+  abbrev pub laterYear : ℕ
+  laterYear = 100 * century since + yearWithin since
+
+  abbrev pub inYear : ℕ
+  inYear = inCentury since - (365 * yearWithin since + yearWithin since / 4)
+
+  read-later : Read (later (isoOn d)) laterYear inYear (monthAt inYear)
+  read-later =
+      rw (on-later d) at
+      (read-day (d + roundDays) laterYear inYear
+      (rw (late, ← same) (gregorian-year since))
+      (rw late (less _ _ _ _ _ (century-start (century since) (yearWithin since) (omega arith)) same)))
+    where
+      same : since + 5 ≡ d + roundDays + epochSerial
+      same = omega arith
+
+      late : leb gregorianSerial (d + roundDays + epochSerial) ≡ true
+      late = le-leb gregorianSerial (d + roundDays + epochSerial) (omega arith)
+
+      less : (a b s t y : ℕ) → y ≡ a + b + 5 → s + 5 ≡ t → s - a - b ≡ t - y
+      less a b s t y e h = omega arith
+
+  -- from March to December, and in January and February, of the year after
+  pub spring-date : monthAt inYear < 10 → record { year = laterYear - 800; month = monthAt inYear + 3; day = inYear - before (monthAt inYear) + 1 } ≡ isoOn d
+  spring-date h =
+      let e = read-later .spring h .1 in
+      same-date (omega (arith, ap (λ (x : Date). x .year) e)) (sym (ap (λ (x : Date). x .month) e)) (sym (ap (λ (x : Date). x .day) e))
+
+  pub winter-date : 10 ≤ monthAt inYear → record { year = laterYear - 800 + 1; month = monthAt inYear - 9; day = inYear - before (monthAt inYear) + 1 } ≡ isoOn d
+  winter-date h =
+      let e = read-later .winter h .1 in
+      same-date (omega (arith, ap (λ (x : Date). x .year) e, year-low d)) (sym (ap (λ (x : Date). x .month) e)) (sym (ap (λ (x : Date). x .day) e))

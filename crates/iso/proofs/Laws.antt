@@ -14,7 +14,7 @@ use Rattle.days.specs.Days.{lastDay, pairAt, theNumber, noNumber, julianDayOf}
 use Rattle.civil.specs.declared.Date.{Date}
 use Rattle.civil.specs.Calendar.{monthDays, dateExists, dateOn}
 use Rattle.civil.specs.declared.DateAnswer.{DateAnswer}
-use Rattle.civil.specs.Answers.{dayOfDate, theDate, noDate, dateOfDay}
+use Rattle.civil.specs.Answers.{dayOfDate, theDate, noDate}
 use Rattle.civil.specs.Serial.{serialOf, serialStart, epochSerial, gregorianSerial, lastJulianStamp}
 use Rattle.civil.proofs.Years.{later-year}
 use Rattle.civil.proofs.Dates.{real-of, stampOf, placed, months, year-long, yearOf}
@@ -138,18 +138,6 @@ from-gregorian n h =
     late g =
         let f = date-counts n .real .fits in
         omega (arith, ltb-true lastJulianStamp (stampOf (dateOn n)) g, months (dateOn n) f, year-long (dateOn n) f, f)
-
-pub late-date : (n : ℕ) → 22845 ≤ n → dateOfDay n ≡ isoDateOf n
-unfolding dateOfDay isoDateOf
-late-date n h = rw (from-gregorian n h)
-
--- before it the date is read from the civil date of 146,097 days later
-pub early-date : (n : ℕ) (a : DateAnswer) → n < 22845 → a ≡ dateOfDay (n + roundDays) → (400 ≤ a .date .year) × (record { refusal = a .refusal; date = record { year = a .date .year - 400; month = a .date .month; day = a .date .day } } ≡ isoDateOf n)
-unfolding dateOfDay isoDateOf
-early-date n a h e =
-    let k : a ≡ theDate (later (isoOn n)) = e ∙ rw (le-leb (n + roundDays) lastDay (omega arith), on-later n) in
-    let s : isoOn n .year + 400 - 400 ≡ isoOn n .year = omega arith in
-    rw k (omega arith, rw (le-leb n lastDay (omega arith), s))
 
 -- what the civil day of the date 400 years later says of a date of the years 1520 to 1582
 module _ (x : Date) (low : 1520 ≤ x .year) (high : x .year ≤ 1582) (a : NumberAnswer) (e : a ≡ dayOfDate (later x)) where

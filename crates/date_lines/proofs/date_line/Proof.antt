@@ -1,5 +1,8 @@
 -- `date_line` meets its contract: each place has its digit. Assumes nothing.
+use mathlib.Core.Path.{_≡_}
+use Prim.Native.Nat.{_/_, _%_}
 use Rattle.date_lines.specs.Lines.{dateLine}
+use native.Mathlib.Omega.{arith}
 use borrow.Author.Needs.{needs}
 use Rattle.date_lines.proofs.date_line.Statement.{statement}
 use Rattle.date_lines.proofs.date_line.Tie as tie
@@ -30,7 +33,12 @@ digit-requires-8 c κs = search needs
 
 returns : tie.Need-returns
 unfolding dateLine
-returns c = rw (c .digit8 .ensures, c .before .digit7 .ensures, c .before .before .before .digit6 .ensures, c .before .before .before .before .digit5 .ensures, c .before .before .before .before .before .before .digit4 .ensures, c .before .before .before .before .before .before .before .digit3 .ensures, c .before .before .before .before .before .before .before .before .before .digit2 .ensures, c .before .before .before .before .before .before .before .before .before .before .before .digit .ensures)
+returns c =
+    let x = c .before .before .before .before .before .before .before .before .before .before .before .before .before .before .before .before .args .date in
+    let y : x .year / 1000 % 10 ≡ x .year / 1000 = omega arith in
+    let m : x .month / 10 % 10 ≡ x .month / 10 = omega arith in
+    let d : x .day / 10 % 10 ≡ x .day / 10 = omega arith in
+    rw (y, m, d, c .digit8 .ensures, c .before .before .digit7 .ensures, c .before .before .before .before .digit6 .ensures, c .before .before .before .before .before .before .digit5 .ensures, c .before .before .before .before .before .before .before .before .digit4 .ensures, c .before .before .before .before .before .before .before .before .before .before .digit3 .ensures, c .before .before .before .before .before .before .before .before .before .before .before .before .digit2 .ensures, c .before .before .before .before .before .before .before .before .before .before .before .before .before .before .digit .ensures)
 
 pub date-line-spec : {M : Type 1} → statement M
 date-line-spec =
