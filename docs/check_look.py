@@ -3,13 +3,14 @@
 no contract can say. It takes the sources of `search` and of every crate below it apart into functions and their calls
 (a method's call counts as one of every method of that name), and holds them to this:
 
-- from the public functions of `search`, without the look, no function of `longitudes` is reached, none of `panchanga`
-  but the test of an edition's number, none of `query` but the tests of a query's ranges, and none of `search` that the
-  look calls;
-- `scan` calls the look, the step to the next visit and the list's put, each once, and nothing else but the length of
-  its output; it hands the query to the look and does nothing else with it;
+- from the public functions of `search`, without the look, no function of `longitudes` or `planets` is reached, none of
+  `panchanga` but the test of an edition's number, none of `query` but the tests of a query's ranges and of whether arcs
+  are given, and none of `search` that the look calls;
+- `scan` calls the look, the step to the next visit, the list's put and what tells which conditions are asked for, each
+  once, and nothing else but the length of its output; it hands the query to the look and to that, and does nothing else
+  with it;
 - outside the look a query is handed on whole, asked for its refusal or for its first and last day, and that is all
-  (`over_day` copies it for a span of one day);
+  (`over_day` copies it for a span of one day, and what tells which conditions are asked for reads which are given);
 - the pair of a day is made once, in the look, of the day of the visit that it is given.
 
   python3 docs/check_look.py    then changes the sources in ways that break this, one by one, and sees that each is
@@ -22,11 +23,14 @@ import sys
 
 ROOT = pathlib.Path(__file__).resolve().parent.parent
 LOOK = "search::examine_day"
-SCAN = {LOOK: 1, "search::next_visit": 1, "entries::put_entry": 1, ".len": 1}
+SCAN = {LOOK: 1, "search::more_asked": 1, "search::next_visit": 1, "entries::put_entry": 1, ".len": 1}
 # What a query's refusal is made of: ranges, which no day enters.
-RANGES = {"query::" + name for name in ("Query::refusal", "conditions_in_range", "arcs_in_range", "Asked::in_range", "Weekdays::in_range", "Arc::in_range", "BodyArcs::in_range")}
+RANGES = {"query::" + name for name in ("Query::refusal", "conditions_in_range", "elements_in_range", "arcs_in_range", "true_arcs_in_range", "Asked::in_range", "Weekdays::in_range", "Arc::in_range", "BodyArcs::in_range")}
 RANGES |= {"panchanga::is_edition"}
-RECKONED = ("longitudes::", "panchanga::", "query::")
+# What tells which conditions are asked for: it reads which are given, and no day enters it.
+ASKED = {"search::more_asked": r"query\.(?:true_)?arcs\b", "search::elements_given": r"query\.\w+\.given\b"}
+RANGES |= {"query::BodyArcs::given"}
+RECKONED = ("longitudes::", "panchanga::", "planets::", "query::")
 COPIES = "search::over_day"
 HEAD = re.compile(r"( *)(pub )?(?:extern \"C\" )?(fn|impl|mod) (\w+)")
 CALL = re.compile(r"(\.)?\b((?:\w+::)*[a-z_]\w*)\(")
@@ -34,10 +38,12 @@ WORDS = {"if", "while", "match", "return", "fn", "for", "loop", "else", "in"}
 WRONG = [
     ("scan tests the weekday of a skipped day", "search", "        let next = next_visit(visit, seen);\n", "        let next = next_visit(visit, seen);\n        let weekdays = query.weekdays;\n        weekdays.admit(visit.day + 1);\n"),
     ("scan reads a condition without a call", "search", "        if seen.matches {\n", "        if query.weekdays.set % 2 == 1 {\n"),
-    ("scan looks twice", "search", "        let next = next_visit(visit, seen);\n", "        let again = examine_day(query, visit);\n        let next = next_visit(visit, again);\n"),
+    ("scan looks twice", "search", "        let next = next_visit(visit, seen);\n", "        let again = examine_day(query, more, visit);\n        let next = next_visit(visit, again);\n"),
     ("a search reckons the Sun before it scans", "search", "    let mut none = [0u8; 0];\n", "    let mut none = [0u8; 0];\n    longitudes::mean_longitude(Body::Sun, Day::EPOCH);\n"),
     ("a search tests an arc by what the look tests it by", "search", "    let mut none = [0u8; 0];\n", "    let mut none = [0u8; 0];\n    nearer(query.arcs[0], 0);\n"),
-    ("the test of the ranges comes to a condition", "query", "    let arcs = query.arcs;\n    arcs_in_range(arcs)\n", "    let arcs = query.arcs;\n    others_met(query, Day::EPOCH);\n    arcs_in_range(arcs)\n"),
+    ("the test of the ranges comes to a condition", "query", "    let true_arcs = query.true_arcs;\n    true_arcs_in_range(true_arcs)\n", "    let true_arcs = query.true_arcs;\n    others_met(query, Day::EPOCH);\n    true_arcs_in_range(true_arcs)\n"),
+    ("scan tests true arcs on a day that is not looked at", "search", "        let next = next_visit(visit, seen);\n", "        let next = next_visit(visit, seen);\n        query::true_arcs_have(1, TrueBody::Sun, BodyArcs::NONE, Day::EPOCH);\n"),
+    ("what is asked comes to a true longitude", "search", "    let places = given_places(true_arcs);\n", "    let places = given_places(true_arcs);\n    query::true_longitude(query.edition, TrueBody::Moon, Day::EPOCH);\n"),
     ("the look reckons the next day", "search", "    let day = visit.day;\n", "    let day = visit.day + 1;\n"),
 ]
 
@@ -129,13 +135,14 @@ def complaints(texts):
     if dict(calling["search::scan"]) != SCAN:
         found.append("scan calls " + ", ".join(f"{name} {times} times" for name, times in sorted(calling["search::scan"].items())))
     scan = known["search::scan"][1]
-    if re.findall(r"\bquery\b.*", scan) != ["query, visit);"] or "examine_day(query, visit)" not in scan:
+    if re.findall(r"\bquery\b.*", scan) != ["query);", "query, more, visit);"] or "examine_day(query, more, visit)" not in scan:
         found.append("scan uses the query, or looks, otherwise than by one look at its visit")
     for name in [name for name in outside if name.startswith("search::")]:
         body = known[name][1]
         used = body if name != COPIES else re.sub(r"let (\w+) = query\.\1;|edition: query\.edition", "", body)
+        used = re.sub(ASKED[name], "", used) if name in ASKED else used
         used = re.sub(r"\bquery(?:\.(?:first|last)\b|\.refusal\(\)|(?=[,)]))|\bsearch::\w+|\bquery::\w+", "", used)
-        if re.search(r"\bquery\b|\balone\.|\b\w+\.(?:weekdays|tithi|nakshatra|yoga|arcs)\b", used):
+        if re.search(r"\bquery\b|\balone\.|\b\w+\.(?:weekdays|tithi|nakshatra|yoga|karana|arcs|true_arcs)\b", used):
             found.append(f"{name} does more with a query than hand it on")
     for crate, most in (("search", 1), ("query", 0)):
         text = re.sub(r"//.*", "", texts[crate])

@@ -1,9 +1,10 @@
 // The general search, the look, the reason why a day is not listed, the catalogue's pieces, the mean longitudes, the
 // elements, the five planets, records filled at one go, the drifts from the older books, ISO dates and lines of days,
 // rows of month starts, and almanac files read block by block as C calls, for comparison runs and not for hosts: a
-// query comes as 260 bytes, 65 numbers of four, low byte first.
+// query comes as 436 bytes, 109 numbers of four, low byte first.
 // They are the first and the last day; for weekdays, tithi, nakshatra and yoga: given (0 no, any other number yes) and
-// set or value; for each body its first arc: given, start and width; the edition; and for each body its second arc.
+// set; for each body its first arc: given, start and width; the edition; for each body its second arc; for karanas
+// given and set; and for each true longitude its first and its second arc.
 mod blocks;
 mod bodies;
 mod drifts;
@@ -24,12 +25,12 @@ use query::Query;
 use query::Weekdays;
 use search::Found;
 ghost use mathlib.Core.Path.{_≡_};
-ghost use Prim.Native.Nat.{_<_};
-ghost use Rattle.bridge.specs.Bytes.{numberFrom, weekdaysFrom, askedFrom, arcFrom, bodyArcsFrom, arcsFrom, queryFrom};
-ghost use Rattle.bridge.specs.Answers.{bridgeResult, bridgeList, bridgeLength, bridgeLooked};
+ghost use Prim.Native.Nat.{_+_, _<_};
+ghost use Rattle.bridge.specs.Bytes.{numberFrom, weekdaysFrom, askedFrom, arcFrom, bodyArcsFrom, arcsFrom, trueArcsFrom, queryFrom};
+ghost use Rattle.bridge.specs.Answers.{bridgeResult, bridgeList, bridgeRefusal, bridgeFirst, bridgeLength, bridgeLooked};
 ghost use Rattle.bridge.specs.Numbers.{BridgeMeasured};
 
-const QUERY_BYTES: usize = 260;
+const QUERY_BYTES: usize = 436;
 
 fn number(query: &[u8], place: usize) -> u32
     ensures { λ r. ⌜ r ≡ numberFrom (now (query .entry)) place ⌝ }
@@ -46,16 +47,16 @@ fn weekdays(query: &[u8]) -> Weekdays
 }
 
 fn asked(query: &[u8], place: usize) -> Asked
-    requires { ⌜ place < 36 ⌝ }
+    requires { ⌜ place < 108 ⌝ }
     ensures { λ r. ⌜ r ≡ askedFrom (now (query .entry)) place ⌝ }
 {
     let given = number(query, place) != 0;
-    let value = number(query, place + 1);
-    Asked { given, value }
+    let set = number(query, place + 1);
+    Asked { given, set }
 }
 
 fn arc(query: &[u8], place: usize) -> Arc
-    requires { ⌜ place < 63 ⌝ }
+    requires { ⌜ place < 107 ⌝ }
     ensures { λ r. ⌜ r ≡ arcFrom (now (query .entry)) place ⌝ }
 {
     let given = number(query, place) != 0;
@@ -68,13 +69,13 @@ fn arc(query: &[u8], place: usize) -> Arc
     }
 }
 
-// The first of a body's arcs is at a place, the second 28 numbers behind it.
-fn body_arcs(query: &[u8], place: usize) -> BodyArcs
-    requires { ⌜ place < 35 ⌝ }
-    ensures { λ r. ⌜ r ≡ bodyArcsFrom (now (query .entry)) place ⌝ }
+// The first of a body's arcs is at a place, the second some numbers behind it.
+fn body_arcs(query: &[u8], place: usize, apart: usize) -> BodyArcs
+    requires { ⌜ place + apart < 107 ⌝ }
+    ensures { λ r. ⌜ r ≡ bodyArcsFrom (now (query .entry)) apart place ⌝ }
 {
     let first = arc(query, place);
-    let second = arc(query, place + 28);
+    let second = arc(query, place + apart);
     BodyArcs { first, second }
 }
 
@@ -82,15 +83,29 @@ fn arcs(query: &[u8]) -> [BodyArcs; 9]
     ensures { λ r. ⌜ r ≡ arcsFrom (now (query .entry)) ⌝ }
 {
     [
-        body_arcs(query, 10),
-        body_arcs(query, 13),
-        body_arcs(query, 16),
-        body_arcs(query, 19),
-        body_arcs(query, 22),
-        body_arcs(query, 25),
-        body_arcs(query, 28),
-        body_arcs(query, 31),
-        body_arcs(query, 34),
+        body_arcs(query, 10, 28),
+        body_arcs(query, 13, 28),
+        body_arcs(query, 16, 28),
+        body_arcs(query, 19, 28),
+        body_arcs(query, 22, 28),
+        body_arcs(query, 25, 28),
+        body_arcs(query, 28, 28),
+        body_arcs(query, 31, 28),
+        body_arcs(query, 34, 28),
+    ]
+}
+
+fn true_arcs(query: &[u8]) -> [BodyArcs; query::TRUE_BODIES]
+    ensures { λ r. ⌜ r ≡ trueArcsFrom (now (query .entry)) ⌝ }
+{
+    [
+        body_arcs(query, 67, 3),
+        body_arcs(query, 73, 3),
+        body_arcs(query, 79, 3),
+        body_arcs(query, 85, 3),
+        body_arcs(query, 91, 3),
+        body_arcs(query, 97, 3),
+        body_arcs(query, 103, 3),
     ]
 }
 
@@ -105,6 +120,8 @@ fn query_of(query: &[u8]) -> Query
     let yoga = asked(query, 8);
     let arcs = arcs(query);
     let edition = number(query, 37);
+    let karana = asked(query, 65);
+    let true_arcs = true_arcs(query);
     Query {
         first,
         last,
@@ -113,7 +130,9 @@ fn query_of(query: &[u8]) -> Query
         tithi,
         nakshatra,
         yoga,
+        karana,
         arcs,
+        true_arcs,
     }
 }
 
@@ -128,6 +147,19 @@ pub extern "C" fn bridge_search(query: &[u8], list: &mut [u8]) -> u32
         return search::search(asked, list).refusal;
     }
     refusal::BAD_INPUT
+}
+
+// The refusal, or 0 with the first of the matching days written to the list, as many as it has entries.
+#[no_mangle]
+pub extern "C" fn bridge_list_first(query: &[u8], list: &mut [u8]) -> u32
+    ensures { λ r. ⌜ r ≡ bridgeRefusal (now (query .entry)) ⌝ }
+    ensures { λ _. ⌜ now (list .exit) ≡ bridgeFirst (now (query .entry)) (now (list .entry)) ⌝ }
+{
+    if query.len() != QUERY_BYTES {
+        return refusal::BAD_INPUT;
+    }
+    let asked = query_of(query);
+    search::list_first(asked, list).refusal
 }
 
 // The two numbers of a search.

@@ -4,11 +4,10 @@ use query::BodyArcs;
 use reasons::Answer;
 use reasons::Reason;
 ghost use mathlib.Core.Path.{_≡_};
-ghost use mathlib.Core.List.{[], _∷_};
 ghost use Prim.Native.Nat.{_≤_};
 ghost use lib.ListN.{getD};
 ghost use Rattle.reasons.specs.Reasons.{causeOf};
-ghost use Rattle.bridge.specs.Answers.{sixOf, bridgeWhy};
+ghost use Rattle.bridge.specs.Answers.{oneNumber, bothNumbers, sixOf, bridgeWhy};
 ghost use Rattle.bridge.specs.Numbers.{BridgeCause, BridgeWhy};
 
 // What shuts the day out: the condition's number, the values asked, in six places, and the value found.
@@ -32,7 +31,7 @@ const NOTHING: Cause = Cause {
 };
 
 fn one_value(condition: u32, asked: u32, found: u32) -> Cause
-    ensures { λ r. ⌜ r ≡ record { condition = condition; asked = asked ∷ 0 ∷ 0 ∷ 0 ∷ 0 ∷ 0 ∷ []; found = found } ⌝ }
+    ensures { λ r. ⌜ r ≡ record { condition = condition; asked = oneNumber asked; found = found } ⌝ }
 {
     Cause {
         condition,
@@ -41,15 +40,13 @@ fn one_value(condition: u32, asked: u32, found: u32) -> Cause
     }
 }
 
-fn both_arcs(body: u32, asked: BodyArcs, found: u32) -> Cause
-    requires { ⌜ body ≤ 8 ⌝ }
-    ensures { λ r. ⌜ BridgeCause (causeOf (Reason.Arcs body asked found)) r ⌝ }
+fn both_arcs(condition: u32, asked: BodyArcs, found: u32) -> Cause
+    ensures { λ r. ⌜ r ≡ record { condition = condition; asked = bothNumbers asked; found = found } ⌝ }
 {
     let first = asked.first;
     let second = asked.second;
     let first_given = first.given as u32;
     let second_given = second.given as u32;
-    let condition = 7 + body;
     Cause {
         condition,
         asked: [
@@ -65,7 +62,7 @@ fn both_arcs(body: u32, asked: BodyArcs, found: u32) -> Cause
 }
 
 fn cause_of(reason: Reason) -> Cause
-    requires { ⌜ causeOf reason .condition ≤ 15 ⌝ }
+    requires { ⌜ causeOf reason .condition ≤ 23 ⌝ }
     ensures { λ r. ⌜ BridgeCause (causeOf reason) r ⌝ }
 {
     match reason {
@@ -76,7 +73,13 @@ fn cause_of(reason: Reason) -> Cause
         Reason::Tithi { asked, found } => one_value(4, asked, found),
         Reason::Nakshatra { asked, found } => one_value(5, asked, found),
         Reason::Yoga { asked, found } => one_value(6, asked, found),
-        Reason::Arcs { body, asked, found } => both_arcs(body, asked, found),
+        Reason::Karana { asked, found } => one_value(16, asked, found),
+        Reason::Arcs { body, asked, found } => both_arcs(7 + body, asked, found),
+        Reason::TrueArcs {
+            place,
+            asked,
+            found,
+        } => both_arcs(17 + place, asked, found),
     }
 }
 
@@ -124,7 +127,8 @@ pub extern "C" fn bridge_why_edition(query: &[u8], day: u32) -> u32
 }
 
 // The number of the first condition that does not hold: 1 before the span, 2 after it, 3 weekday, 4 tithi, 5 nakshatra,
-// 6 yoga, from 7 on the arcs of the body with the number 7 less; 0 where the day fits.
+// 6 yoga, 7 to 15 the arcs of the body with the number 7 less, 16 karana, 17 to 23 the arcs of the true longitude with
+// the place 17 less; 0 where the day fits. In the order 16 comes before 7.
 #[no_mangle]
 pub extern "C" fn bridge_why_condition(query: &[u8], day: u32) -> u32
     ensures { λ r. ⌜ r ≡ bridgeWhy (now (query .entry)) day .cause .condition ⌝ }
@@ -132,8 +136,8 @@ pub extern "C" fn bridge_why_condition(query: &[u8], day: u32) -> u32
     answer(query, day).cause.condition
 }
 
-// One of the values asked, counted from 0; of arcs first given, start and width, second given, start and width. Behind
-// the last one 0.
+// One of the values asked, counted from 0; of arcs first given, start and width, second given, start and width; a set
+// is one value. Behind the last one 0.
 #[no_mangle]
 pub extern "C" fn bridge_why_asked(query: &[u8], day: u32, index: u32) -> u32
     ensures { λ r. ⌜ r ≡ getD (sixOf (bridgeWhy (now (query .entry)) day .cause .asked)) index 0 ⌝ }

@@ -4,7 +4,7 @@
 use mathlib.Core.Path.{_≡_, refl}
 use mathlib.Core.Bool.{Bool, true, false, cond, _&&_, and-eq-true-iff}
 use mathlib.Core.List.{List, [], _∷_, _++_, append-assoc}
-use Prim.Native.Nat.{ℕ, zero, suc, _+_, _-_, _≤_}
+use Prim.Native.Nat.{ℕ, zero, suc, _+_, _-_, _/_, _%_, _^_, _≤_, _<_}
 use native.Mathlib.Nat.{add-suc}
 use native.Mathlib.Decide.{decLe}
 use native.Mathlib.Omega.{arith}
@@ -27,7 +27,7 @@ use Rattle.text.proofs.Printing.{digits-length, digits-some}
 use Rattle.words.specs.Names.{weekdayNames}
 use Rattle.words.specs.Words.{nameAt}
 use Rattle.words.proofs.Names.{noLonger, name-length}
-use Rattle.dated.specs.Dated.{dateBytes, dayBytes, namedDayBytes}
+use Rattle.dated.specs.Dated.{dateBytes, dayBytes, namedDayBytes, angleBytes}
 
 -- ---- what is named
 pub day-bytes : (n : ℕ) → n ≤ lastDay → dayBytes n ≡ digitsOf n ++ (ascii " " ++ dateBytes (dateOn n))
@@ -103,15 +103,18 @@ unfolding dateOn
 date-small zero = omega arith
 date-small (suc n) = rw (add-suc 1582 n) (next-small (1582 + n) (dateOn n) (omega arith) (date-small n))
 
-pub day-short : (n : ℕ) → n ≤ lastDay → length (dayBytes n) ≤ 19
-unfolding dateBytes
-day-short n h =
+pub date-short : (n : ℕ) → n ≤ lastDay → length (dateBytes (dateOfDay n .date)) ≤ 12
+unfolding dateBytes dateOfDay
+date-short n h =
     let s = date-small n in
-    let number = digits-length 5 n (omega arith) in
     let year = digits-length 5 (dateOn n .year) (omega (arith, s .year)) in
     let month = digits-length 1 (dateOn n .month) (omega (arith, s .month)) in
     let day = digits-length 1 (dateOn n .day) (omega (arith, s .day)) in
-    rw (day-bytes n h) (simp length-append (omega arith))
+    rw (le-leb n lastDay h) (simp length-append (omega arith))
+
+pub day-short : (n : ℕ) → n ≤ lastDay → length (dayBytes n) ≤ 19
+unfolding dayBytes
+day-short n h = simp length-append (omega (arith, digits-length 5 n (omega arith), date-short n h))
 
 name-short : (w : ℕ) → length (nameAt weekdayNames w) ≤ 9
 unfolding noLonger
@@ -124,3 +127,16 @@ named-day-short n h = simp length-append (omega (arith, day-short n h, name-shor
 pub named-day-some : (n : ℕ) → 1 ≤ length (namedDayBytes n)
 unfolding namedDayBytes dayBytes
 named-day-some n = simp length-append (omega (arith, digits-some n))
+
+-- an angle of at most so many digits in its degrees
+pub angle-digits : (k seconds : ℕ) → seconds / 3600 < 10 ^ suc k → length (angleBytes seconds) ≤ suc k + 6
+unfolding angleBytes
+angle-digits k seconds h =
+    let degrees = digits-length k (seconds / 3600) h in
+    let minutes = digits-length 1 (seconds / 60 % 60) (omega arith) in
+    let rest = digits-length 1 (seconds % 60) (omega arith) in
+    simp length-append (omega arith)
+
+-- and one of at most a circle
+pub angle-short : (seconds : ℕ) → seconds ≤ 1296000 → length (angleBytes seconds) ≤ 9
+angle-short seconds h = angle-digits 2 seconds (omega arith)

@@ -1,61 +1,59 @@
 -- The line fits: for a query that is not refused what each condition says where it does not hold is short, and so what
 -- is said of the first. By the list of the conditions.
 -- Assumes nothing.
-use Prim.Native.Nat.{ℕ, _+_, _≤_, _<_}
-use mathlib.Core.Path.{_≡_, refl, sym, ap, _∙_}
-use mathlib.Core.Bool.{Bool, true, false, cond, _&&_, and-eq-true-iff, true≢false}
+use Prim.Native.Nat.{ℕ, zero, suc, _+_, _-_, _≤_, _<_}
+use mathlib.Core.Path.{_≡_, refl, sym, _∙_}
+use mathlib.Core.Bool.{Bool, true, false, cond, and-eq-true-iff, true≢false}
 use mathlib.Core.List.{List, [], _∷_, _++_}
 use native.Mathlib.Omega.{arith}
-use lib.Dec.{ltb, leb, eqb}
+use lib.Dec.{eqb}
 use lib.ListN.{length, length-append}
-use borrow.Author.Tests.{ltb-true, leb-true}
 use Rattle.catalogue.proofs.DayLines.{edition-short}
-use Rattle.dated.proofs.Laws.{day-short}
+use Rattle.dated.proofs.Laws.{day-short, angle-short}
+use Rattle.dated.specs.Dated.{dayBytes}
 use Rattle.days.specs.Days.{lastDay, pairAt, weekdayOn}
 use Rattle.days.specs.Weekdays.{inSet}
 use Rattle.longitudes.specs.Longitudes.{longitudeAt}
 use Rattle.longitudes.proofs.Table.{longitude-small}
-use Rattle.panchanga.specs.OnDays.{tithiAt, nakshatraAt, yogaAt}
-use Rattle.panchanga.proofs.Bounds.{tithi-small, nakshatra-small, yoga-small}
-use Rattle.query.specs.declared.Asked.{Asked}
+use Rattle.panchanga.proofs.Bounds.{tithi-small, nakshatra-small, yoga-small, karana-range}
+use Rattle.query.specs.declared.BodyArcs.{BodyArcs}
 use Rattle.query.specs.declared.Weekdays.{Weekdays}
 use Rattle.query.specs.declared.Query.{Query}
-use Rattle.query.specs.Conditions.{meets, weekdayMet, arcsAt, askedInRange, weekdaysInRange, bodyArcsInRange, arcsInRange, conditionsInRange}
-use Rattle.query.proofs.Conditions.{arcs-false}
+use Rattle.query.specs.Conditions.{weekdayMet, arcsAt, trueLongitudeAt, weekdaysInRange, elementsInRange, bodyArcsInRange, arcsInRange, trueArcsInRange, conditionsInRange}
+use Rattle.query.proofs.Conditions.{arcs-false, true-arcs-false}
 use Rattle.query.proofs.Accepted.{accepted-by, each-in-range}
-use Rattle.reasons.specs.Conditions.{Condition, arcNumbers, arcsAsked, arcConditions, everyBody, conditionsOn, firstUnmet}
+use Rattle.reasons.specs.Conditions.{bound, anyOf, Condition, arcsAsked, trueArcsAsked, row, trueConditions, conditionsOn, firstUnmet}
 use Rattle.reasons.specs.Reasons.{whyOf}
 use Rattle.reasons.proofs.Accepted.{accepted-question}
 use Rattle.reasons.proofs.Laws.{answered, told}
 use Rattle.text.specs.Ascii.{ascii}
 use Rattle.text.specs.Lines.{lineCapacity}
 use Rattle.text.proofs.Printing.{digits-length}
-use Rattle.explanation.specs.Explanations.{weekdaysText, numbersText, arcsText, causeText, verdictText, answerLine, explanationOf}
-use Rattle.explanation.proofs.Making.{arcs-verdict}
-use Rattle.explanation.proofs.Sizes.{names-short, body-name-short, angle-short, arc-short}
+use Rattle.words.specs.Names.{bodyNames, trueNames}
+use Rattle.words.specs.Words.{nameAt}
+use Rattle.words.proofs.Names.{body-name-short, true-name-short}
+use Rattle.explanation.specs.Explanations.{weekdaysText, elementName, numbersText, arcsText, verdictOf, verdictText, answerLine, explanationOf}
+use Rattle.explanation.proofs.Sizes.{names-short, numbers-short, arc-short, true-small}
 
 -- what each of some conditions says where it does not hold is short
 Short : List Condition → Type 0
 Short [] = Unit {0}
-Short (c ∷ cs) = (c .holds ≡ false → length (verdictText (c .cause)) ≤ 98) × Short cs
+Short (c ∷ cs) = (c .holds ≡ false → length (verdictText (c .cause)) ≤ 129) × Short cs
 
-first-short : (cs : List Condition) → Short cs → length (verdictText (firstUnmet cs)) ≤ 98
-unfolding Short firstUnmet verdictText
+first-short : (cs : List Condition) → Short cs → length (verdictText (firstUnmet cs)) ≤ 129
+unfolding Short firstUnmet verdictOf
 first-short [] h = omega arith
 first-short (c ∷ cs) h = go (c .holds) refl (first-short cs (h .1))
   where
-    go : (b : Bool) → c .holds ≡ b → length (verdictText (firstUnmet cs)) ≤ 98 → length (verdictText (cond b (firstUnmet cs) (c .cause))) ≤ 98
+    go : (b : Bool) → c .holds ≡ b → length (verdictText (firstUnmet cs)) ≤ 129 → length (verdictText (cond b (firstUnmet cs) (c .cause))) ≤ 129
     go true e k = k
     go false e k = h .0 e
 
--- a number that is not the one asked for: one was asked, and it is in range
-asked-short : (a : Asked) (found largest : ℕ) → askedInRange a largest ≡ true → meets a found ≡ false → a .value ≤ largest
-unfolding askedInRange meets
-asked-short a found largest r e = go (a .given) r e
-  where
-    go : (g : Bool) → cond g (leb (a .value) largest) true ≡ true → cond g (eqb found (a .value)) true ≡ false → a .value ≤ largest
-    go true k f = leb-true _ _ k
-    go false k f = absurd (true≢false f)
+-- those in a row are, where each of them is, with others behind them
+row-short : (f : ℕ → Condition) (count : ℕ) (others : List Condition) → ((k : ℕ) → k < count → length (verdictText (f k .cause)) ≤ 129) → Short others → (n k : ℕ) → k + n ≤ count → Short (row f k n ++ others)
+unfolding Short row
+row-short f count others each rest zero k h = rest
+row-short f count others each rest (suc n) k h = (λ _. each k (omega arith), row-short f count others each rest n (k + 1) (omega arith))
 
 not-in-set : (a : Weekdays) (w : ℕ) → weekdayMet a w ≡ false → inSet (a .set) w ≡ false
 unfolding weekdayMet
@@ -65,98 +63,93 @@ not-in-set a w e = go (a .given) e
     go true k = k
     go false k = absurd (true≢false k)
 
-numbers-short : (name : List ℕ) (asked found : ℕ) → length name ≤ 9 → asked ≤ 29 → found < 30 → length (numbersText name asked found) ≤ 27
-unfolding numbersText
-numbers-short name asked found h a f =
-    let one = digits-length 1 asked (omega arith) in
-    let other = digits-length 1 found (omega arith) in
-    simp length-append (omega arith)
+end-short : (k day found : ℕ) → day ≤ lastDay → length (verdictOf (bound day) k found) ≤ 129
+unfolding verdictOf
+end-short k day found h = go (eqb k 1)
+  where
+    go : (b : Bool) → length (ascii " does not fit: " ++ cond b (ascii "before the span asked from " ++ dayBytes day) (ascii "after the span asked to " ++ dayBytes day)) ≤ 129
+    go true = simp length-append (omega (arith, day-short day h))
+    go false = simp length-append (omega (arith, day-short day h))
 
--- some numbers are those of bodies
-allBodies : List ℕ → Bool
-allBodies [] = true
-allBodies (b ∷ bs) = ltb b 9 && allBodies bs
+weekday-short : (set found : ℕ) → found < 7 → inSet set found ≡ false → length (verdictOf (anyOf set) 3 found) ≤ 129
+unfolding verdictOf weekdaysText
+weekday-short set found h e = simp length-append (omega (arith, names-short set found h e))
 
--- the conditions are in range, each
-record InRange (q : Query) : Type 0 where
-  tithi : askedInRange (q .tithi) 29 ≡ true
-  nakshatra : askedInRange (q .nakshatra) 26 ≡ true
-  yoga : askedInRange (q .yoga) 26 ≡ true
-  arcs : arcsInRange (q .arcs) ≡ true
+name-short : (k : ℕ) → length (elementName k) ≤ 9
+name-short k = go (eqb k 4) (eqb k 5) (eqb k 6)
+  where
+    go : (t n y : Bool) → length (cond t (ascii "tithi") (cond n (ascii "nakshatra") (cond y (ascii "yoga") (ascii "karana")))) ≤ 9
+    go true n y = omega arith
+    go false true y = omega arith
+    go false false true = omega arith
+    go false false false = omega arith
 
-each : (q : Query) → conditionsInRange q ≡ true → InRange q
+element-short : (k set found : ℕ) → eqb k 3 ≡ false → found < 100 → length (verdictOf (anyOf set) k found) ≤ 129
+unfolding verdictOf numbersText
+element-short k set found e h = rw e (simp length-append (omega (arith, name-short k, numbers-short set 0 30 (omega arith), digits-length 1 found (omega arith))))
+
+arcs-short : (name : List ℕ) (asked : BodyArcs) (found : ℕ) → length name ≤ 12 → bodyArcsInRange asked ≡ true → found < 1296000 → length (arcsText name asked found) ≤ 74
+unfolding arcsText
+arcs-short name asked found h r f =
+    let in-range = each-in-range asked r in
+    simp length-append (omega (arith, arc-short (asked .first) (in-range .0), arc-short (asked .second) (in-range .1), angle-short found (omega arith)))
+
+-- the arcs of a query are in range, each
+in-range : {asked : Bool} (one : Bool) → asked ≡ true → (one ≡ false → asked ≡ false) → one ≡ true
+in-range true a h = refl
+in-range false a h = absurd (true≢false (sym a ∙ h refl))
+
+module _ (q : Query) (n : ℕ) (arcs : arcsInRange (q .arcs) ≡ true) (others : trueArcsInRange (q .«true_arcs») ≡ true) where
+  body-short : (k : ℕ) → k < 9 → length (verdictText (arcsAsked (q .arcs) (pairAt n) k .cause)) ≤ 129
+  unfolding verdictOf
+  body-short k l =
+      let back : 7 + k - 7 ≡ k = omega arith in
+      rw back (omega (arith, arcs-short (nameAt bodyNames k) (arcsAt (q .arcs) k) (longitudeAt k (pairAt n)) (omega (arith, body-name-short k)) (in-range _ arcs (arcs-false (q .arcs) k l)) (longitude-small k (pairAt n))))
+
+  place-short : (k : ℕ) → k < 7 → length (verdictText (trueArcsAsked (q .edition) (q .«true_arcs») (pairAt n) k .cause)) ≤ 129
+  unfolding verdictOf
+  place-short k l =
+      let back : 17 + k - 17 ≡ k = omega arith in
+      rw back (omega (arith, arcs-short (nameAt trueNames k) (arcsAt (q .«true_arcs») k) (trueLongitudeAt (q .edition) k (pairAt n)) (true-name-short k) (in-range _ others (true-arcs-false (q .«true_arcs») k l)) (true-small (q .edition) k (pairAt n))))
+
+  all-short : q .first ≤ lastDay → q .last ≤ lastDay → Short (conditionsOn q n)
+  unfolding Short conditionsOn row
+  all-short first last =
+      let d = pairAt n in (
+        λ _. end-short 1 (q .first) n first,
+        (
+          λ _. end-short 2 (q .last) n last,
+          (
+            λ e. weekday-short (q .weekdays .set) (weekdayOn n) (omega arith) (not-in-set (q .weekdays) (weekdayOn n) e),
+            (
+              λ _. element-short 4 (q .tithi .set) _ refl (omega (arith, tithi-small (q .edition) d)),
+              (
+                λ _. element-short 5 (q .nakshatra .set) _ refl (omega (arith, nakshatra-small (q .edition) d)),
+                (
+                  λ _. element-short 6 (q .yoga .set) _ refl (omega (arith, yoga-small (q .edition) d)),
+                  (
+                    λ _. element-short 16 (q .karana .set) _ refl (omega (arith, karana-range (q .edition) d)),
+                    row-short (arcsAsked (q .arcs) d) 9 (trueConditions (q .edition) (q .«true_arcs») d) body-short (row-short (trueArcsAsked (q .edition) (q .«true_arcs») d) 7 [] place-short tt 7 0 (omega arith)) 9 0 (omega arith),
+                  ),
+                ),
+              ),
+            ),
+          ),
+        ),
+      )
+
+-- the arcs of a query whose conditions are in range
+arcs-of : (q : Query) → conditionsInRange q ≡ true → (arcsInRange (q .arcs) ≡ true) × (trueArcsInRange (q .«true_arcs») ≡ true)
 unfolding conditionsInRange
-each q e =
-    let t = and-eq-true-iff (weekdaysInRange (q .weekdays)) _ .0 e .1 in
-    let n = and-eq-true-iff (askedInRange (q .tithi) 29) _ .0 t in
-    let y = and-eq-true-iff (askedInRange (q .nakshatra) 26) _ .0 (n .1) in
-    let a = and-eq-true-iff (askedInRange (q .yoga) 26) _ .0 (y .1) in
-    record { tithi = n .0; nakshatra = y .0; yoga = a .0; arcs = a .1 }
-
-module _ (q : Query) (n : ℕ) (known : InRange q) (first : q .first ≤ lastDay) (last : q .last ≤ lastDay) where
-  first-said : length (verdictText (record { condition = 1; asked = q .first ∷ []; found = n })) ≤ 98
-  unfolding verdictText causeText
-  first-said = simp length-append (omega (arith, day-short (q .first) first))
-
-  last-said : length (verdictText (record { condition = 2; asked = q .last ∷ []; found = n })) ≤ 98
-  unfolding verdictText causeText
-  last-said = simp length-append (omega (arith, day-short (q .last) last))
-
-  weekday-said : weekdayMet (q .weekdays) (weekdayOn n) ≡ false → length (verdictText (record { condition = 3; asked = q .weekdays .set ∷ []; found = weekdayOn n })) ≤ 98
-  unfolding verdictText causeText weekdaysText
-  weekday-said e = simp length-append (omega (arith, names-short (q .weekdays .set) (weekdayOn n) (omega arith) (not-in-set (q .weekdays) (weekdayOn n) e)))
-
-  tithi-said : meets (q .tithi) (tithiAt (q .edition) (pairAt n)) ≡ false → length (verdictText (record { condition = 4; asked = q .tithi .value ∷ []; found = tithiAt (q .edition) (pairAt n) })) ≤ 98
-  unfolding verdictText causeText
-  tithi-said e =
-      let found = tithiAt (q .edition) (pairAt n) in
-      let asked = asked-short (q .tithi) found 29 (known .tithi) e in
-      simp length-append (omega (arith, numbers-short (ascii "tithi") (q .tithi .value) found (omega arith) (omega arith) (omega (arith, tithi-small (q .edition) (pairAt n)))))
-
-  nakshatra-said : meets (q .nakshatra) (nakshatraAt (q .edition) (pairAt n)) ≡ false → length (verdictText (record { condition = 5; asked = q .nakshatra .value ∷ []; found = nakshatraAt (q .edition) (pairAt n) })) ≤ 98
-  unfolding verdictText causeText
-  nakshatra-said e =
-      let found = nakshatraAt (q .edition) (pairAt n) in
-      let asked = asked-short (q .nakshatra) found 26 (known .nakshatra) e in
-      simp length-append (omega (arith, numbers-short (ascii "nakshatra") (q .nakshatra .value) found (omega arith) (omega arith) (omega (arith, nakshatra-small (q .edition) (pairAt n)))))
-
-  yoga-said : meets (q .yoga) (yogaAt (q .edition) (pairAt n)) ≡ false → length (verdictText (record { condition = 6; asked = q .yoga .value ∷ []; found = yogaAt (q .edition) (pairAt n) })) ≤ 98
-  unfolding verdictText causeText
-  yoga-said e =
-      let found = yogaAt (q .edition) (pairAt n) in
-      let asked = asked-short (q .yoga) found 26 (known .yoga) e in
-      simp length-append (omega (arith, numbers-short (ascii "yoga") (q .yoga .value) found (omega arith) (omega arith) (omega (arith, yoga-small (q .edition) (pairAt n)))))
-
-  of-body : (b : ℕ) → b < 9 → bodyArcsInRange (arcsAt (q .arcs) b) ≡ true
-  of-body b l = go (bodyArcsInRange (arcsAt (q .arcs) b)) refl
-    where
-      go : (t : Bool) → bodyArcsInRange (arcsAt (q .arcs) b) ≡ t → bodyArcsInRange (arcsAt (q .arcs) b) ≡ true
-      go true e = e
-      go false e = absurd (true≢false (sym (known .arcs) ∙ arcs-false (q .arcs) b l e))
-
-  arcs-short : (b : ℕ) → b < 9 → length (verdictText (arcsAsked (q .arcs) (pairAt n) b .cause)) ≤ 98
-  arcs-short b l =
-      let in-range = each-in-range (arcsAt (q .arcs) b) (of-body b l) in
-      rw (arcs-verdict b (arcNumbers (arcsAt (q .arcs) b .first) ++ arcNumbers (arcsAt (q .arcs) b .second)) (longitudeAt b (pairAt n)))
-      (unfold arcsText in
-      simp length-append
-      (omega (arith, body-name-short b, arc-short (arcsAt (q .arcs) b .first) (in-range .0), arc-short (arcsAt (q .arcs) b .second) (in-range .1), angle-short (longitudeAt b (pairAt n)) (omega (arith, longitude-small b (pairAt n))))))
-
-  bodies-short : (bodies : List ℕ) → allBodies bodies ≡ true → Short (arcConditions (q .arcs) (pairAt n) bodies)
-  unfolding Short arcConditions allBodies
-  bodies-short [] h = tt
-  bodies-short (b ∷ bs) h =
-      let both = and-eq-true-iff (ltb b 9) (allBodies bs) .0 h in
-      (λ _. arcs-short b (ltb-true b 9 (both .0)), bodies-short bs (both .1))
-
-  all-short : Short (conditionsOn q n)
-  unfolding Short conditionsOn allBodies
-  all-short = (λ _. first-said, (λ _. last-said, (weekday-said, (tithi-said, (nakshatra-said, (yoga-said, bodies-short everyBody refl))))))
+arcs-of q e =
+    let elements = and-eq-true-iff (weekdaysInRange (q .weekdays)) _ .0 e .1 in
+    and-eq-true-iff (arcsInRange (q .arcs)) (trueArcsInRange (q .«true_arcs»)) .0 (and-eq-true-iff (elementsInRange q) _ .0 elements .1)
 
 pub explanation-fits : (q : Query) (n : ℕ) → whyOf q n .refusal ≡ 0 → length (explanationOf q n) ≤ lineCapacity
 unfolding answerLine
 explanation-fits q n r =
     let a = accepted-question q n (answered q n r) in
     let by = accepted-by q (a .query) in
-    let verdict = first-short (conditionsOn q n) (all-short q n (each q (by .conditions)) (omega (arith, by .first, by .last)) (by .last)) in
+    let arcs = arcs-of q (by .conditions) in
+    let verdict = first-short (conditionsOn q n) (all-short q n (arcs .0) (arcs .1) (omega (arith, by .first, by .last)) (by .last)) in
     rw (told q n (answered q n r)) (simp length-append (omega (arith, day-short n (a .day), verdict, edition-short (q .edition))))

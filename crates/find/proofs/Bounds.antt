@@ -1,6 +1,6 @@
 -- The days found are days, and the output's length is a number that a program can count to: at most a line for each day
 -- there is, and one for the heading. Assumes nothing.
-use mathlib.Core.Path.{_≡_, ap}
+use mathlib.Core.Path.{_≡_, _∙_}
 use mathlib.Core.Bool.{Bool, true, false, cond}
 use mathlib.Core.List.{List, [], _∷_}
 use Prim.Native.Nat.{ℕ, zero, suc, _+_, _*_, _-_, _≤_}
@@ -12,12 +12,13 @@ use Rattle.entries.specs.Runs.{filtered}
 use Rattle.panchanga.specs.TrueLongitudes.{isEdition}
 use Rattle.query.specs.declared.Query.{Query}
 use Rattle.query.specs.Query.{conditionsMet, refusalOf}
+use Rattle.query.specs.SunArcs.{withSunArcs}
+use Rattle.query.proofs.SunArcs.{same-refusal}
 use Rattle.query.proofs.Accepted.{accepted-by}
 use Rattle.search.specs.Look.{nextDay}
 use Rattle.search.specs.Days.{spanLength, matchingDays, visitedFrom, visitedDays}
 use Rattle.entries.proofs.Filter.{filtered-short}
 use Rattle.text.specs.Lines.{lineCapacity}
-use Rattle.catalogue.specs.Catalogue.{dayLine}
 use Rattle.catalogue.specs.Pieces.{dayLines}
 use Rattle.entries.specs.Listed.{EachDay}
 use Rattle.catalogue.proofs.DayLines.{line-fits, heading-fits}
@@ -49,7 +50,11 @@ visited-short q (suc n) d = go (leb d (q .last)) (visited-short q n (nextDay q d
     go true h = omega arith
     go false h = omega arith
 
-lines-short : (ed : ℕ) → isEdition ed ≡ true → (ds : List ℕ) → EachDay ds → length (dayLines ed ds) ≤ 128 * length ds
+visited-few : (q : Query) → refusalOf q ≡ 0 → length (visitedDays q) ≤ lastDay + 1
+unfolding visitedDays
+visited-few q e = omega (arith, visited-short q (spanLength q) (q .first), accepted-by q e .last)
+
+lines-short : (ed : ℕ) → isEdition ed ≡ true → (ds : List ℕ) → EachDay ds → length (dayLines ed ds) ≤ 160 * length ds
 unfolding EachDay dayLines
 lines-short ed t [] each = omega arith
 lines-short ed t (d ∷ ds) each = simp length-append (omega (arith, line-fits ed d t (each .0), lines-short ed t ds (each .1)))
@@ -58,9 +63,9 @@ module _ (q : Query) (e : refusalOf q ≡ 0) where
   pub heading-short : length (headingOf q) ≤ lineCapacity
   heading-short =
       let by = accepted-by q e in
-      heading-fits _ _ _ (omega (arith, matching-short q, by .last)) (unfold visitedDays in omega (arith, visited-short q (spanLength q) (q .first), by .last))
+      heading-fits _ _ _ (omega (arith, matching-short q, by .last)) (omega (arith, visited-few (withSunArcs q) (same-refusal q ∙ e)))
 
-  pub output-short : length (outputOf q) ≤ 51404928
+  pub output-short : length (outputOf q) ≤ 64256160
   unfolding outputOf
   output-short =
       let by = accepted-by q e in

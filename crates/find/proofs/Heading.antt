@@ -8,6 +8,7 @@ use lib.ListN.{length, take, drop}
 use lib.Seq.{take-append-seam}
 use Rattle.query.specs.declared.Query.{Query}
 use Rattle.query.specs.Query.{refusalOf}
+use Rattle.query.specs.SunArcs.{withSunArcs}
 use Rattle.query.proofs.Accepted.{accepted-by}
 use Rattle.panchanga.specs.TrueLongitudes.{isEdition}
 use Rattle.search.specs.Days.{matchingDays, visitedDays}
@@ -20,7 +21,7 @@ use Rattle.find.specs.Output.{headingOf, outputOf, NextBytes}
 use Rattle.find.proofs.Bounds.{heading-short}
 use Rattle.find.proofs.Next.{next-of}
 
-module _ (q : Query) (e : refusalOf q ≡ 0) (n k : ℕ) (count : n ≡ length (matchingDays q)) (visits : k ≡ length (visitedDays q)) (before : List ℕ) (room : lineCapacity ≤ length before) (piece : Piece)
+module _ (q : Query) (e : refusalOf q ≡ 0) (n k : ℕ) (count : n ≡ length (matchingDays q)) (visits : k ≡ length (visitedDays (withSunArcs q))) (before : List ℕ) (room : lineCapacity ≤ length before) (piece : Piece)
     (after : List ℕ) (told : piece ≡ ofEdition (q .edition) (headingPiece (q .edition) n k (length before)))
     (put : after ≡ leftInEdition (q .edition) before (headingAfter (q .edition) n k before)) where
   edition : isEdition (q .edition) ≡ true

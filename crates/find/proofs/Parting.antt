@@ -9,20 +9,20 @@ use lib.ListN.{length, drop, length-append, length-drop}
 use lib.Seq.{drop-append-seam}
 use Rattle.query.specs.declared.Query.{Query}
 use Rattle.query.specs.Query.{refusalOf}
+use Rattle.query.specs.SunArcs.{withSunArcs}
 use Rattle.query.proofs.Accepted.{accepted-by}
 use Rattle.search.specs.declared.Found.{Found}
 use Rattle.search.specs.Days.{matchingDays}
 use Rattle.search.specs.Search.{Searched}
 use Rattle.search.specs.Spans.{between}
 use Rattle.search.proofs.Spans.{adjoining, no-days, part-accepted}
-use Rattle.entries.specs.Entries.{capacity}
 use Rattle.text.specs.Lines.{lineCapacity}
 use Rattle.catalogue.specs.Pieces.{dayLines}
 use Rattle.catalogue.proofs.Together.{lines-append}
 use Rattle.find.specs.Output.{headingOf, outputOf, frontDays, NextDays}
 use Rattle.find.proofs.Bounds.{matching-short}
 use Rattle.find.proofs.Next.{next-of, left-of}
-use Rattle.find.proofs.Listed.{enough, there, listed, each}
+use Rattle.find.proofs.Listed.{Filled, by-search, there, listed, each}
 
 -- the lines of the days from day `first` to the last are due
 pub record Parting (q : Query) (first written : ℕ) : Type 0 where
@@ -49,14 +49,20 @@ module _ (q : Query) (e : refusalOf q ≡ 0) where
       let none : drop written (outputOf q) ≡ [] = p .left ∙ ap (dayLines (q .edition)) (ap (λ (a : ℕ). matchingDays (between q a (q .last))) end ∙ no-days q (q .last)) ∙ (unfold dayLines in refl) in
       omega (arith, p .within, length-drop written (outputOf q), ap length none)
 
-  -- an entry for each day is enough
-  pub part-fits : (first last : ℕ) (list : List ℕ) → last < first + 16384 → 65536 ≤ length list → length (matchingDays (between q first last)) ≤ capacity list
-  part-fits first last list near room = omega (arith, matching-short (between q first last))
-
   -- a part of the span, searched with enough entries
   module _ (first written last : ℕ) (p : Parting q first written) (low : first ≤ last) (high : last ≤ q .last) where
-    good-part : refusalOf (between q first last) ≡ 0
+    pub good-part : refusalOf (between q first last) ≡ 0
     good-part = part-accepted q first last e low high
+
+    -- an entry for each day is enough
+    pub part-filled :
+        (list : List ℕ) (found : Found) (after : List ℕ) →
+        Searched (withSunArcs (between q first last)) list found after →
+        last < first + 16384 →
+        65536 ≤ length list →
+        Filled (between q first last) list (found .length) after
+    part-filled list found after s near room =
+        by-search (between q first last) good-part list found after s (omega (arith, matching-short (between q first last)))
 
     abbrev days : List ℕ
     days = matchingDays (between q first last)
@@ -67,19 +73,19 @@ module _ (q : Query) (e : refusalOf q ≡ 0) where
     left-now : drop written (outputOf q) ≡ dayLines (q .edition) days ++ later
     left-now = p .left ∙ ap (dayLines (q .edition)) (adjoining q first last (q .last) (omega arith) high) ∙ lines-append (q .edition) days (matchingDays (between q (last + 1) (q .last)))
 
-    module _ (list : List ℕ) (found : Found) (after : List ℕ) (s : Searched (between q first last) list found after) (fits : length days ≤ capacity list) where
-      here : frontDays after (found .length) ≡ days
-      here = listed (between q first last) good-part list found after s fits
+    module _ (list : List ℕ) (n : ℕ) (after : List ℕ) (f : Filled (between q first last) list n after) where
+      here : frontDays after n ≡ days
+      here = listed (between q first last) good-part list n after f
 
-      pub part-next : (room : ℕ) → lineCapacity ≤ room → NextDays q written after (found .length) room
+      pub part-next : (room : ℕ) → lineCapacity ≤ room → NextDays q written after n room
       part-next room h =
           record {
-            there = there (between q first last) good-part list found after s fits;
+            there = there (between q first last) good-part list n after f;
             next = rw here (next-of q written (dayLines (q .edition) days) later left-now);
-            each = each (between q first last) good-part list found after s fits room h;
+            each = each (between q first last) good-part list n after f room h;
           }
 
-      pub parting-step : (bytes : ℕ) → bytes ≡ written + length (dayLines (q .edition) (frontDays after (found .length))) → Parting q (last + 1) bytes
+      pub parting-step : (bytes : ℕ) → bytes ≡ written + length (dayLines (q .edition) (frontDays after n)) → Parting q (last + 1) bytes
       parting-step bytes h =
           let sum : bytes ≡ written + length (dayLines (q .edition) days) = h ∙ ap (λ (ds : List ℕ). written + length (dayLines (q .edition) ds)) here in
           let more : length (outputOf q) - written ≡ length (dayLines (q .edition) days) + length later = sym (length-drop written (outputOf q)) ∙ ap length left-now ∙ length-append (dayLines (q .edition) days) later in
@@ -91,12 +97,12 @@ module _ (q : Query) (e : refusalOf q ≡ 0) where
           }
 
   -- the whole span is a part too
-  module _ (written : ℕ) (h : written ≡ length (headingOf q)) (list : List ℕ) (found : Found) (after : List ℕ) (s : Searched q list found after) (accepted : found .refusal ≡ 0) where
-    pub whole-next : (room : ℕ) → lineCapacity ≤ room → NextDays q written after (found .length) room
-    whole-next = part-next (q .first) written (q .last) (parting-start written h) (accepted-by q e .first) (omega arith) list found after s (enough q e list found after s accepted)
+  module _ (written : ℕ) (h : written ≡ length (headingOf q)) (list : List ℕ) (n : ℕ) (after : List ℕ) (f : Filled q list n after) where
+    pub whole-next : (room : ℕ) → lineCapacity ≤ room → NextDays q written after n room
+    whole-next = part-next (q .first) written (q .last) (parting-start written h) (accepted-by q e .first) (omega arith) list n after f
 
-    pub whole-printed : (bytes : ℕ) → bytes ≡ written + length (dayLines (q .edition) (frontDays after (found .length))) → bytes ≡ length (outputOf q)
+    pub whole-printed : (bytes : ℕ) → bytes ≡ written + length (dayLines (q .edition) (frontDays after n)) → bytes ≡ length (outputOf q)
     whole-printed bytes b =
         parted (q .last + 1) bytes
-        (parting-step (q .first) written (q .last) (parting-start written h) (accepted-by q e .first) (omega arith) list found after s (enough q e list found after s accepted) bytes b)
+        (parting-step (q .first) written (q .last) (parting-start written h) (accepted-by q e .first) (omega arith) list n after f bytes b)
         (omega arith)

@@ -59,7 +59,7 @@ module _ (q : Query) (days : List ℕ) (before : ℕ) where
         ∙ length-append (take (piece .bytes) after) (due (piece .next) ++ drop end (outputOf q))
         ∙ ap (λ (n : ℕ). n + length (due (piece .next) ++ drop end (outputOf q))) (step .front)
 
-    pub countable : refusalOf q ≡ 0 → (piece .bytes ≡ 0 → ⊥) → written + piece .bytes ≤ 51404928
+    pub countable : refusalOf q ≡ 0 → (piece .bytes ≡ 0 → ⊥) → written + piece .bytes ≤ 64256160
     countable e some = omega (arith, length-now, output-short q e)
 
     pub fewer : (piece .bytes ≡ 0 → ⊥) → length (due (piece .next)) < length (due next)

@@ -5,15 +5,17 @@ use mathlib.Core.List.{List, _++_}
 use Prim.Native.Nat.{ℕ, _*_}
 use lib.ListN.{length, take, drop}
 use Rattle.query.specs.declared.Query.{Query}
+use Rattle.query.specs.SunArcs.{withSunArcs}
 use Rattle.search.specs.Days.{matchingDays, visitedDays}
 use Rattle.catalogue.specs.Catalogue.{catalogueHeading}
 use Rattle.entries.specs.Listed.{listedFrom}
 use Rattle.catalogue.specs.Pieces.{dayLines}
 use Rattle.catalogue.specs.Each.{EachFits}
 
--- the heading for a query, in its edition, with the number of matching days and of days looked at
+-- the heading for a query, in its edition, with the number of matching days, and of the days looked at in the walk that
+-- is made: that of the query which asks for the mean Sun too where the true Sun is asked for alone
 abbrev pub headingOf : Query → List ℕ
-headingOf q = catalogueHeading (q .edition) (length (matchingDays q)) (length (visitedDays q))
+headingOf q = catalogueHeading (q .edition) (length (matchingDays q)) (length (visitedDays (withSunArcs q)))
 
 -- ALL THAT IS WRITTEN: the heading, and the line of each matching day, earliest first
 unfoldable pub outputOf : Query → List ℕ

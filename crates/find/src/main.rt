@@ -9,17 +9,20 @@ ghost use mathlib.Core.Bool.{true};
 ghost use Prim.Native.Nat.{_+_, _<_, _≤_};
 ghost use lib.ListN.{length};
 ghost use Rattle.query.specs.Query.{refusalOf};
+ghost use Rattle.query.specs.SunArcs.{withSunArcs};
 ghost use Rattle.text.specs.Inputs.{tooLong};
 ghost use Rattle.text.specs.Lines.{lineCapacity};
 ghost use Rattle.entries.specs.Listed.{listedFrom};
 ghost use Rattle.catalogue.specs.Pieces.{dayLines};
 ghost use Rattle.catalogue.specs.Each.{EachFits};
+ghost use Rattle.remarks.specs.Remarks.{remarksOf};
 ghost use Rattle.search.specs.Days.{matchingDays, visitedDays};
 ghost use Rattle.search.specs.Spans.{between};
 ghost use Rattle.find.specs.Output.{headingOf, outputOf, NextBytes, frontDays, NextDays};
 
 // With the page and the buffer a run keeps within 1 MiB of stack. A span with more matching days than the list has
-// entries is searched part by part, with an entry for each day of a part.
+// entries is searched part by part, with an entry for each day of a part. A page's query is searched as the one that
+// asks for the mean Sun too (`with_sun_arcs`): it has the same matching days, and fewer days are looked at.
 const PART: u32 = 16384;
 
 const LIST: usize = entries::ENTRY_BYTES * PART as usize;
@@ -42,7 +45,7 @@ fn write_next(query: Query, before: usize, bytes: &[u8]) -> bool
 
 fn print_heading(query: Query, found: Found, buffer: &mut [u8]) -> Written
     requires { ⌜ (refusalOf query ≡ 0) × (lineCapacity ≤ length (now buffer)) ⌝ }
-    requires { ⌜ (found .length ≡ length (matchingDays query)) × (found .examined ≡ length (visitedDays query)) ⌝ }
+    requires { ⌜ (found .length ≡ length (matchingDays query)) × (found .examined ≡ length (visitedDays (withSunArcs query))) ⌝ }
     ensures { λ r. ⌜ r .bytes ≡ length (headingOf query) ⌝ }
 {
     let piece = catalogue::heading(query.edition, found.length, found.examined, buffer);
@@ -123,7 +126,8 @@ fn print_parts(query: Query, before: usize, list: &mut [u8], buffer: &mut [u8]) 
     let mut first = query.first;
     while first <= query.last {
         let last = part_end(first, query.last);
-        let found = search::search(part_of(query, first, last), list);
+        let part = part_of(query, first, last);
+        let found = search::search(part.with_sun_arcs(), list);
         let printed = print_listed(query, written, found, list, buffer);
         if !printed.whole {
             return printed;
@@ -138,17 +142,18 @@ fn print_parts(query: Query, before: usize, list: &mut [u8], buffer: &mut [u8]) 
 }
 
 // Where no write fails, all of the output is written. The heading has the number of matching days, so the whole span is
-// searched before it, and where the list has an entry for each of them they are listed already.
+// searched before it, and where the list has an entry for each of them they are listed already: each day is examined
+// once.
 fn print_found(query: Query, list: &mut [u8], buffer: &mut [u8]) -> Written
     requires { ⌜ (refusalOf query ≡ 0) × (65536 ≤ length (now list)) × (lineCapacity ≤ length (now buffer)) ⌝ }
     ensures { λ r. ⌜ (r .whole ≡ true → r .bytes ≡ length (outputOf query)) ⌝ }
 {
-    let found = search::search(query, list);
+    let found = search::list_first(query.with_sun_arcs(), list);
     let heading = print_heading(query, found, buffer);
     if !heading.whole {
         return heading;
     }
-    if found.refusal != refusal::NONE {
+    if PART < found.length {
         return print_parts(query, heading.bytes, list, buffer);
     }
     print_listed(query, heading.bytes, found, list, buffer)
@@ -172,6 +177,19 @@ fn refuse(read: PageRead)
     output::say(messages::page_fault(read.line as u32, read.refusal, read.reason));
 }
 
+// The only way to say how a page was understood. By what it requires the bytes are all that is said of it.
+fn say_all(text: &[u8], bytes: &[u8])
+    requires { ⌜ now bytes ≡ remarksOf 1 (now text) ⌝ }
+{
+    output::say_bytes(bytes);
+}
+
+fn say_remarks(text: &[u8]) {
+    let mut buffer = [0u8; remarks::ROOM];
+    let bytes = remarks::of_page(text, 1, &mut buffer);
+    say_all(text, &buffer[..bytes]);
+}
+
 fn read_and_find(input: &mut [u8])
     requires { ⌜ length (now input) ≤ tooLong ⌝ }
 {
@@ -186,6 +204,7 @@ fn read_and_find(input: &mut [u8])
         refuse(read);
         return;
     }
+    say_remarks(&input[..n]);
     find_days(read.query);
 }
 

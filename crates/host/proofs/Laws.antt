@@ -20,8 +20,8 @@ use Rattle.longitudes.specs.Answers.{longitudeOf, longitudesOf}
 use Rattle.longitudes.proofs.Answers.{longitude-given, longitude-refused}
 use Rattle.panchanga.specs.TrueLongitudes.{firstEdition, isEdition}
 use Rattle.panchanga.specs.OnDays.{panchangaOf}
-use Rattle.query.specs.Conditions.{notAsked, noArc}
-use Rattle.search.proofs.PaperQuery.{queryOf}
+use Rattle.query.specs.Conditions.{noArc}
+use Rattle.search.proofs.PaperQuery.{notOne, queryOf}
 use Rattle.host.specs.Calls.{onNumber}
 use Rattle.host.specs.HostQuery.{hostQuery}
 use Rattle.host.proofs.OnNumbers.{pair-past-last, on-number}
@@ -80,9 +80,9 @@ pub host-single :
       last = last;
       edition = firstEdition;
       weekday = record { given = true; value = weekday };
-      tithi = notAsked;
-      nakshatra = notAsked;
-      yoga = notAsked;
+      tithi = notOne;
+      nakshatra = notOne;
+      yoga = notOne;
       arcs = record { given = true; start = start; width = width } ∷ replicate 8 noArc;
     })
 unfolding hostQuery

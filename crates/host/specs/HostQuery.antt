@@ -18,5 +18,7 @@ hostQuery first last start width weekday =
       tithi = notAsked;
       nakshatra = notAsked;
       yoga = notAsked;
+      karana = notAsked;
       arcs = onlyArc (record { given = true; start = start; width = width }) ∷ replicate 8 noArcs;
+      «true_arcs» = replicate 7 noArcs;
     }

@@ -35,7 +35,9 @@ fn query_of(first: u32, last: u32, start: u32, width: u32, weekday: u32) -> Quer
         tithi: Asked::NONE,
         nakshatra: Asked::NONE,
         yoga: Asked::NONE,
+        karana: Asked::NONE,
         arcs,
+        true_arcs: [BodyArcs::NONE; query::TRUE_BODIES],
     }
 }
 
@@ -72,7 +74,9 @@ pub extern "C" fn graha_search(
             tithi: Asked::NONE,
             nakshatra: Asked::NONE,
             yoga: Asked::NONE,
+            karana: Asked::NONE,
             arcs,
+            true_arcs: [BodyArcs::NONE; query::TRUE_BODIES],
         },
         list,
     ).refusal

@@ -47,6 +47,11 @@ pub fn say(line: Line) {
     write(STDERR_FILENO, line);
 }
 
+// The same for bytes of many lines.
+pub fn say_bytes(bytes: &[u8]) {
+    io::write_all(STDERR_FILENO, bytes);
+}
+
 // Says of a write to standard output that it failed, and hands back whether it did not.
 fn said(whole: bool) -> bool
     ensures { λ r. ⌜ r ≡ whole ⌝ }

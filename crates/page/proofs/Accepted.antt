@@ -7,7 +7,7 @@ use Prim.Native.Nat.{ℕ, zero, suc, _-_, _≤_, _<_}
 use native.Mathlib.Omega.{arith}
 use borrow.Author.Tests.{eqb-true, eqb-false, leb-false, ltb-true, le-leb, lt-ltb}
 use lib.Dec.{eqb, leb, ltb}
-use lib.ListN.{length, getD, set, replicate, length-set}
+use lib.ListN.{length, getD, set, replicate, length-set, length-replicate}
 use lib.Seq.{getD-set-same, getD-set-other}
 use Rattle.days.specs.declared.NumberAnswer.{NumberAnswer}
 use Rattle.days.specs.Refusals.{badInput}
@@ -17,28 +17,29 @@ use Rattle.query.specs.declared.Asked.{Asked}
 use Rattle.query.specs.declared.Weekdays.{Weekdays}
 use Rattle.query.specs.declared.BodyArcs.{BodyArcs}
 use Rattle.query.specs.declared.Query.{Query}
-use Rattle.query.specs.Conditions.{askedInRange, weekdaysInRange, arcsAt, arcInRange, bodyArcsInRange, arcsInRange, conditionsInRange, notAsked, noWeekdays, noArcs}
+use Rattle.query.specs.Conditions.{numbersInRange, askedInRange, weekdaysInRange, arcsAt, arcInRange, bodyArcsInRange, arcsInRange, trueArcsInRange, elementsInRange, conditionsInRange, notAsked, noWeekdays, noArcs}
 use Rattle.query.specs.Query.{refusalOf}
-use Rattle.query.proofs.Conditions.{arcs-true, arcs-false}
+use Rattle.query.proofs.Conditions.{arcs-true, arcs-false, true-arcs-true, true-arcs-false}
 use Rattle.query.proofs.Accepted.{accepted-by}
 use Rattle.text.specs.Lines.{newline}
-use Rattle.values.proofs.Refusals.{either, OfReading, number-refusal, day-refusal, weekdays-refusal, none-refusal}
+use Rattle.values.specs.Values.{mostWeekdays, mostNumbers}
+use Rattle.values.proofs.Refusals.{either, OfReading, number-refusal, day-refusal, set-of-refusal, none-refusal}
 use Rattle.words.specs.Words.{firstWord, afterWord, afterWords, pieces, placeIn}
 use Rattle.page.specs.Names.{keywords}
 use Rattle.page.specs.declared.Values.{Values}
 use Rattle.page.specs.declared.LineRead.{LineRead}
 use Rattle.page.specs.declared.Fault.{Fault}
 use Rattle.page.specs.declared.Page.{Page}
-use Rattle.page.specs.Page.{spanKeyword, weekdayKeyword, tithiKeyword, nakshatraKeyword, yogaKeyword, editionKeyword, arcKeywords, keywordCount, everyDay, withCondition, rankOf, ranksBefore, firstRefusal, firstValue, secondValue, numbersRead, arcRead, secondArcRead, arcsRead, mostValues, valuesRead, unknownWord, manyValues, malformedLine, blankLine, conditionRead, wordsRead, lineRead, firstFault, withFault, withLine, withLines, emptyPage, pageAnswer, pageRead}
+use Rattle.page.specs.Page.{spanKeyword, weekdayKeyword, tithiKeyword, nakshatraKeyword, yogaKeyword, editionKeyword, arcKeywords, karanaKeyword, trueKeywords, keywordCount, isElement, everyDay, withCondition, rankOf, ranksBefore, firstRefusal, firstValue, secondValue, numbersRead, arcRead, secondArcRead, arcsRead, mostValues, valuesRead, unknownWord, manyValues, malformedLine, blankLine, conditionRead, wordsRead, lineRead, firstFault, withFault, withLine, withLines, emptyPage, pageAnswer, pageRead}
 
 -- a refusal that has a rank
-abbrev Ranked : ℕ → Type 0
+abbrev pub Ranked : ℕ → Type 0
 Ranked r = (r ≡ 0 → ⊥) → rankOf r < 6
 
 ranked-0 : Ranked 0
 ranked-0 h = absurd (h refl)
 
-ranked-all : Ranked 1 × Ranked 2 × Ranked 3 × Ranked 5 × Ranked 6 × Ranked 14
+pub ranked-all : Ranked 1 × Ranked 2 × Ranked 3 × Ranked 5 × Ranked 6 × Ranked 14
 unfolding rankOf
 ranked-all = (λ _. omega arith, λ _. omega arith, λ _. omega arith, λ _. omega arith, λ _. omega arith, λ _. omega arith)
 
@@ -75,13 +76,14 @@ second-value-read k w = either OfReading (eqb k spanKeyword) (day-refusal w) (no
 values-ranked : (k : ℕ) (t : List ℕ) → RankedValues (valuesRead k t)
 unfolding valuesRead arcsRead
 values-ranked k t =
-    either RankedValues (eqb k weekdayKeyword) (numbers-ranked _ _ (weekdays-refusal 7 0 t) (omega arith))
+    either RankedValues (eqb k weekdayKeyword) (numbers-ranked _ _ (set-of-refusal true mostWeekdays 0 t) (omega arith))
+    (either RankedValues (isElement k) (numbers-ranked _ _ (set-of-refusal false mostNumbers 0 t) (omega arith))
     (either RankedValues (ltb k arcKeywords)
     (numbers-ranked _ _ (first-value-read k (firstWord t)) (second-value-read k (firstWord (afterWord t))))
     (either RankedValues
     (arcRead (firstWord t) (firstWord (afterWord t)) .read && secondArcRead (firstWord (afterWords 2 t)) (firstWord (afterWords 3 t)) .read)
     ranked-0
-    (ranked-all .2)))
+    (ranked-all .2))))
 
 query-ranked : (q : Query) → Ranked (refusalOf q)
 unfolding refusalOf
@@ -93,8 +95,8 @@ query-ranked q =
     (ranked-all .5)
 
 -- a line's refusal has a rank, and a condition that it does not refuse is not refused alone
-record SoundLine (l : LineRead) : Type 0 where
-  ranked : Ranked (l .refusal)
+pub record SoundLine (l : LineRead) : Type 0 where
+  pub ranked : Ranked (l .refusal)
   alone : l .refusal ≡ 0 → l .keyword < keywordCount → refusalOf (withCondition everyDay (l .keyword) (l .values)) ≡ 0
 
 blank-sound : SoundLine blankLine
@@ -124,7 +126,7 @@ words-sound name behind =
     (condition-sound k (valuesRead k behind) (values-ranked k behind))
     (malformed-sound manyValues)))
 
-line-read-sound : (l : List ℕ) → SoundLine (lineRead l)
+pub line-read-sound : (l : List ℕ) → SoundLine (lineRead l)
 unfolding lineRead
 line-read-sound l = words-sound _ _
 
@@ -142,7 +144,7 @@ unfolding rankOf
 rank-accepted = refl
 
 -- where the first of two faults is none, neither is one
-first-fault-former : (f g : Fault) → firstFault f g .refusal ≡ 0 → f .refusal ≡ 0
+pub first-fault-former : (f g : Fault) → firstFault f g .refusal ≡ 0 → f .refusal ≡ 0
 unfolding firstFault ranksBefore
 first-fault-former f g = go (ltb (rankOf (g .refusal)) (rankOf (f .refusal))) refl
   where
@@ -156,7 +158,7 @@ first-fault-former f g = go (ltb (rankOf (g .refusal)) (rankOf (f .refusal))) re
         (omega (arith, ltb-true (rankOf (g .refusal)) (rankOf (f .refusal)) e, rank-most (f .refusal), ap rankOf r ∙ rank-accepted))
     go false e r = r
 
-first-fault-latter : (f g : Fault) → Ranked (g .refusal) → firstFault f g .refusal ≡ 0 → g .refusal ≡ 0
+pub first-fault-latter : (f g : Fault) → Ranked (g .refusal) → firstFault f g .refusal ≡ 0 → g .refusal ≡ 0
 unfolding firstFault ranksBefore
 first-fault-latter f g k r = go (eqb (g .refusal) 0) refl
   where
@@ -169,31 +171,44 @@ first-fault-latter f g k r = go (eqb (g .refusal) 0) refl
         let lower = k (eqb-false (g .refusal) 0 e) in
         rw (lt-ltb (rankOf (g .refusal)) (rankOf (f .refusal)) (omega (arith, ap rankOf none ∙ rank-accepted))) at r
 
+-- the arcs of so many bodies are in range
+abbrev EachInRange : ℕ → List BodyArcs → Type 0
+EachInRange count arcs = (k : ℕ) → k < count → bodyArcsInRange (arcsAt arcs k) ≡ true
+
 -- what makes a query not refused
 record Accepted (q : Query) : Type 0 where
   edition : isEdition (q .edition) ≡ true
   order : q .first ≤ q .last
   end : q .last ≤ lastDay
   weekdays : weekdaysInRange (q .weekdays) ≡ true
-  tithi : askedInRange (q .tithi) 29 ≡ true
-  nakshatra : askedInRange (q .nakshatra) 26 ≡ true
-  yoga : askedInRange (q .yoga) 26 ≡ true
-  arcs : (body : ℕ) → body < 9 → bodyArcsInRange (arcsAt (q .arcs) body) ≡ true
+  tithi : askedInRange (q .tithi) 0 29 ≡ true
+  nakshatra : askedInRange (q .nakshatra) 0 26 ≡ true
+  yoga : askedInRange (q .yoga) 0 26 ≡ true
+  karana : askedInRange (q .karana) 1 11 ≡ true
+  arcs : EachInRange 9 (q .arcs)
+  places : EachInRange 7 (q .«true_arcs»)
 
-arc-in-range : (arcs : List BodyArcs) → arcsInRange arcs ≡ true → (body : ℕ) → body < 9 → bodyArcsInRange (arcsAt arcs body) ≡ true
-arc-in-range arcs e body h = go (bodyArcsInRange (arcsAt arcs body)) refl
+-- a test that one body's arcs out of range decide
+each-in-range :
+    (count : ℕ) (arcs : List BodyArcs) (test : Bool) →
+    ((k : ℕ) → k < count → bodyArcsInRange (arcsAt arcs k) ≡ false → test ≡ false) →
+    test ≡ true →
+    EachInRange count arcs
+each-in-range count arcs test decides e k h = go (bodyArcsInRange (arcsAt arcs k)) refl
   where
-    go : (t : Bool) → bodyArcsInRange (arcsAt arcs body) ≡ t → bodyArcsInRange (arcsAt arcs body) ≡ true
+    go : (t : Bool) → bodyArcsInRange (arcsAt arcs k) ≡ t → bodyArcsInRange (arcsAt arcs k) ≡ true
     go true f = f
-    go false f = absurd (false≢true (sym (arcs-false arcs body h f) ∙ e))
+    go false f = absurd (false≢true (sym (decides k h f) ∙ e))
 
 accepted-conditions : (q : Query) → isEdition (q .edition) ≡ true → q .first ≤ q .last → q .last ≤ lastDay → conditionsInRange q ≡ true → Accepted q
-unfolding conditionsInRange
+unfolding conditionsInRange elementsInRange
 accepted-conditions q edition order end e =
     let w = and-eq-true-iff _ _ .0 e in
-    let t = and-eq-true-iff _ _ .0 (w .1) in
+    let elements = and-eq-true-iff _ _ .0 (w .1) in
+    let t = and-eq-true-iff _ _ .0 (elements .0) in
     let n = and-eq-true-iff _ _ .0 (t .1) in
     let y = and-eq-true-iff _ _ .0 (n .1) in
+    let a = and-eq-true-iff _ _ .0 (elements .1) in
     record {
       edition = edition;
       order = order;
@@ -202,14 +217,16 @@ accepted-conditions q edition order end e =
       tithi = t .0;
       nakshatra = n .0;
       yoga = y .0;
-      arcs = arc-in-range (q .arcs) (y .1);
+      karana = y .1;
+      arcs = each-in-range 9 (q .arcs) _ (arcs-false (q .arcs)) (a .0);
+      places = each-in-range 7 (q .«true_arcs») _ (true-arcs-false (q .«true_arcs»)) (a .1);
     }
 
 accepted-parts : (q : Query) → refusalOf q ≡ 0 → Accepted q
 accepted-parts q h = let by = accepted-by q h in accepted-conditions q (by .edition) (by .first) (by .last) (by .conditions)
 
 parts-accepted : (q : Query) → Accepted q → refusalOf q ≡ 0
-unfolding refusalOf conditionsInRange
+unfolding refusalOf conditionsInRange elementsInRange
 parts-accepted q g =
     rw (
       g .edition,
@@ -220,7 +237,9 @@ parts-accepted q g =
       g .tithi,
       g .nakshatra,
       g .yoga,
+      g .karana,
       arcs-true (q .arcs) (g .arcs),
+      true-arcs-true (q .«true_arcs») (g .places),
     )
 
 -- what holds of the new in one place and of the old holds of the one picked
@@ -241,62 +260,78 @@ span-picked true a b f l pn po = pn
 span-picked false a b f l pn po = po
 
 arcs-picked :
-    (t : Bool) (arcs : List BodyArcs) (i : ℕ) (arc : BodyArcs) →
-    i < 9 →
-    length arcs ≡ 9 →
-    ((body : ℕ) → body < 9 → bodyArcsInRange (arcsAt (cond t (set (replicate 9 noArcs) i arc) (replicate 9 noArcs)) body) ≡ true) →
-    ((body : ℕ) → body < 9 → bodyArcsInRange (arcsAt arcs body) ≡ true) →
-    (body : ℕ) →
-    body < 9 →
-    bodyArcsInRange (arcsAt (cond t (set arcs i arc) arcs) body) ≡ true
-arcs-picked false arcs i arc hi nine pn po body h = po body h
-arcs-picked true arcs i arc hi nine pn po body h = go (eqb body i) refl
+    (count : ℕ) (t : Bool) (arcs : List BodyArcs) (i : ℕ) (arc : BodyArcs) →
+    (t ≡ true → i < count) →
+    length arcs ≡ count →
+    EachInRange count (cond t (set (replicate count noArcs) i arc) (replicate count noArcs)) →
+    EachInRange count arcs →
+    EachInRange count (cond t (set arcs i arc) arcs)
+arcs-picked count false arcs i arc hi many pn po k h = po k h
+arcs-picked count true arcs i arc hi many pn po k h = go (eqb k i) refl
   where
     this : bodyArcsInRange arc ≡ true
-    this = sym (ap bodyArcsInRange (getD-set-same (replicate 9 noArcs) i arc noArcs hi)) ∙ pn i hi
+    this =
+        sym (ap bodyArcsInRange (getD-set-same (replicate count noArcs) i arc noArcs (omega (arith, hi refl, length-replicate count noArcs))))
+        ∙ pn i (hi refl)
 
-    go : (u : Bool) → eqb body i ≡ u → bodyArcsInRange (arcsAt (set arcs i arc) body) ≡ true
+    go : (u : Bool) → eqb k i ≡ u → bodyArcsInRange (arcsAt (set arcs i arc) k) ≡ true
     go true e =
-        let same = eqb-true body i e in
-        rw (same, getD-set-same arcs i arc noArcs (omega arith)) this
-    go false e = rw (getD-set-other arcs i body arc noArcs (eqb-false body i e)) (po body h)
+        let same = eqb-true k i e in
+        rw (same, getD-set-same arcs i arc noArcs (omega (arith, hi refl))) this
+    go false e = rw (getD-set-other arcs i k arc noArcs (eqb-false k i e)) (po k h)
+
+-- the bodies' keywords
+of-body : (k : ℕ) → (leb arcKeywords k && ltb k karanaKeyword) ≡ true → k - arcKeywords < 9
+of-body k e = omega (arith, ltb-true k karanaKeyword (and-eq-true-iff (leb arcKeywords k) (ltb k karanaKeyword) .0 e .1))
 
 abbrev asked : ℕ → Asked
-asked a = record { given = true; value = a }
+asked a = record { given = true; set = a }
 
 -- conditions that are not refused alone are not refused together
 together :
     (q : Query) (k : ℕ) (v : Values) →
     k < keywordCount →
     length (q .arcs) ≡ 9 →
+    length (q .«true_arcs») ≡ 7 →
     Accepted q →
     Accepted (withCondition everyDay k v) →
     Accepted (withCondition q k v)
 unfolding withCondition
-together q k v hk nine g alone =
+together q k v hk nine seven g alone =
     record {
       edition = picked (λ (n : ℕ). isEdition n ≡ true) (eqb k editionKeyword) (v .first) firstEdition (q .edition) (alone .edition) (g .edition);
       order = span-picked (eqb k spanKeyword) (v .first) (v .second) (q .first) (q .last) (alone .order) (g .order);
       end = picked (λ (n : ℕ). n ≤ lastDay) (eqb k spanKeyword) (v .second) lastDay (q .last) (alone .end) (g .end);
       weekdays = picked (λ (x : Weekdays). weekdaysInRange x ≡ true) (eqb k weekdayKeyword) (record { given = true; set = v .first }) noWeekdays (q .weekdays) (alone .weekdays) (g .weekdays);
-      tithi = picked (λ (x : Asked). askedInRange x 29 ≡ true) (eqb k tithiKeyword) (asked (v .first)) notAsked (q .tithi) (alone .tithi) (g .tithi);
-      nakshatra = picked (λ (x : Asked). askedInRange x 26 ≡ true) (eqb k nakshatraKeyword) (asked (v .first)) notAsked (q .nakshatra) (alone .nakshatra) (g .nakshatra);
-      yoga = picked (λ (x : Asked). askedInRange x 26 ≡ true) (eqb k yogaKeyword) (asked (v .first)) notAsked (q .yoga) (alone .yoga) (g .yoga);
-      arcs = arcs-picked (leb arcKeywords k) (q .arcs) (k - arcKeywords) _ (omega arith) nine (alone .arcs) (g .arcs);
+      tithi = picked (λ (x : Asked). askedInRange x 0 29 ≡ true) (eqb k tithiKeyword) (asked (v .first)) notAsked (q .tithi) (alone .tithi) (g .tithi);
+      nakshatra = picked (λ (x : Asked). askedInRange x 0 26 ≡ true) (eqb k nakshatraKeyword) (asked (v .first)) notAsked (q .nakshatra) (alone .nakshatra) (g .nakshatra);
+      yoga = picked (λ (x : Asked). askedInRange x 0 26 ≡ true) (eqb k yogaKeyword) (asked (v .first)) notAsked (q .yoga) (alone .yoga) (g .yoga);
+      karana = picked (λ (x : Asked). askedInRange x 1 11 ≡ true) (eqb k karanaKeyword) (asked (v .first)) notAsked (q .karana) (alone .karana) (g .karana);
+      arcs = arcs-picked 9 (leb arcKeywords k && ltb k karanaKeyword) (q .arcs) (k - arcKeywords) _ (of-body k) nine (alone .arcs) (g .arcs);
+      places = arcs-picked 7 (leb trueKeywords k) (q .«true_arcs») (k - trueKeywords) _ (λ _. omega arith) seven (alone .places) (g .places);
     }
 
-nine-kept : (q : Query) (k : ℕ) (v : Values) → length (q .arcs) ≡ 9 → length (withCondition q k v .arcs) ≡ 9
+-- as many arcs as there were
+arcs-kept : (t : Bool) (arcs : List BodyArcs) (i : ℕ) (arc : BodyArcs) → length (cond t (set arcs i arc) arcs) ≡ length arcs
+arcs-kept true arcs i arc = length-set arcs i arc
+arcs-kept false arcs i arc = refl
+
+nine-kept : (q : Query) (k : ℕ) (v : Values) → length (withCondition q k v .arcs) ≡ length (q .arcs)
 unfolding withCondition
-nine-kept q k v nine =
-    either (λ (arcs : List BodyArcs). length arcs ≡ 9) (leb arcKeywords k) (length-set (q .arcs) (k - arcKeywords) _ ∙ nine) nine
+nine-kept q k v = arcs-kept (leb arcKeywords k && ltb k karanaKeyword) (q .arcs) (k - arcKeywords) (v .arcs)
+
+seven-kept : (q : Query) (k : ℕ) (v : Values) → length (withCondition q k v .«true_arcs») ≡ length (q .«true_arcs»)
+unfolding withCondition
+seven-kept q k v = arcs-kept (leb trueKeywords k) (q .«true_arcs») (k - trueKeywords) (v .arcs)
 
 -- a page without a fault has a query that is not refused
 record SoundPage (p : Page) : Type 0 where
   nine : length (p .query .arcs) ≡ 9
+  seven : length (p .query .«true_arcs») ≡ 7
   accepted : p .fault .refusal ≡ 0 → Accepted (p .query)
 
 with-fault-sound : (p : Page) (f : Fault) → SoundPage p → SoundPage (withFault p f)
-with-fault-sound p f s = record { nine = s .nine; accepted = λ r. s .accepted (first-fault-former (p .fault) f r) }
+with-fault-sound p f s = record { nine = s .nine; seven = s .seven; accepted = λ r. s .accepted (first-fault-former (p .fault) f r) }
 
 line-sound : (p : Page) (n : ℕ) (l : LineRead) → SoundPage p → SoundLine l → SoundPage (withLine p n l)
 unfolding withLine
@@ -308,9 +343,10 @@ line-sound p n l s sound = go (leb keywordCount (l .keyword)) refl
     new : l .keyword < keywordCount → SoundPage (record { fault = firstFault (p .fault) f; present = set (p .present) (l .keyword) true; query = withCondition (p .query) (l .keyword) (l .values) })
     new h =
         record {
-          nine = nine-kept (p .query) (l .keyword) (l .values) (s .nine);
+          nine = nine-kept (p .query) (l .keyword) (l .values) ∙ s .nine;
+          seven = seven-kept (p .query) (l .keyword) (l .values) ∙ s .seven;
           accepted = λ r.
-              together (p .query) (l .keyword) (l .values) h (s .nine) (s .accepted (first-fault-former (p .fault) f r))
+              together (p .query) (l .keyword) (l .values) h (s .nine) (s .seven) (s .accepted (first-fault-former (p .fault) f r))
               (accepted-parts _ (sound .alone (first-fault-latter (p .fault) f (sound .ranked) r) h));
         }
 
@@ -325,11 +361,11 @@ lines-sound p n (l ∷ []) s = either SoundPage (eqb (length l) 0) s (with-fault
 lines-sound p n (l ∷ m ∷ ms) s = lines-sound (withLine p n (lineRead l)) (suc n) (m ∷ ms) (line-sound p n (lineRead l) s (line-read-sound l))
 
 every-accepted : refusalOf everyDay ≡ 0
-unfolding refusalOf isEdition conditionsInRange askedInRange weekdaysInRange arcsInRange bodyArcsInRange arcInRange
+unfolding refusalOf isEdition conditionsInRange elementsInRange numbersInRange weekdaysInRange arcsInRange trueArcsInRange bodyArcsInRange arcInRange
 every-accepted = refl
 
 empty-sound : SoundPage emptyPage
-empty-sound = record { nine = refl; accepted = λ _. accepted-parts everyDay every-accepted }
+empty-sound = record { nine = refl; seven = refl; accepted = λ _. accepted-parts everyDay every-accepted }
 
 pub accepted-page : (text : List ℕ) → pageRead text .refusal ≡ 0 → refusalOf (pageRead text .query) ≡ 0
 unfolding pageRead pageAnswer

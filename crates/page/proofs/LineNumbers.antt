@@ -23,7 +23,7 @@ unfolding inFront
 in-front-count b [] h = absurd (omega arith)
 in-front-count b (l ∷ ls) h = refl
 
-pieces-count : (text : List ℕ) → (1 ≤ length (pieces newline text)) × (length (pieces newline text) ≤ length text + 1)
+pub pieces-count : (text : List ℕ) → (1 ≤ length (pieces newline text)) × (length (pieces newline text) ≤ length text + 1)
 unfolding pieces
 pieces-count [] = (omega arith, omega arith)
 pieces-count (b ∷ bs) = go (isSeparator newline b) (pieces-count bs)

@@ -3,20 +3,25 @@
 -- Assumes nothing.
 use mathlib.Core.Path.{_≡_, refl}
 use mathlib.Core.Bool.{true}
-use mathlib.Core.List.{[], _∷_}
+use mathlib.Core.List.{List, [], _∷_, _++_}
 use Prim.Native.Nat.{ℕ}
 use lib.ListN.{replicate}
-use Rattle.panchanga.specs.TrueLongitudes.{isEdition}
+use Rattle.panchanga.specs.TrueLongitudes.{firstEdition, isEdition}
+use Rattle.query.specs.declared.Arc.{Arc}
+use Rattle.query.specs.declared.Asked.{Asked}
+use Rattle.query.specs.declared.BodyArcs.{BodyArcs}
 use Rattle.query.specs.declared.Query.{Query}
-use Rattle.query.specs.Conditions.{askedInRange, weekdaysInRange, arcInRange, bodyArcsInRange, arcsInRange, conditionsInRange, notAsked, onlyWeekday, onlyArc, noArcs}
+use Rattle.query.specs.declared.Weekdays.{Weekdays}
+use Rattle.query.specs.Conditions.{hasNumber, withNumber, numbersInRange, weekdaysInRange, arcInRange, bodyArcsInRange, arcsInRange, trueArcsInRange, elementsInRange, conditionsInRange, notAsked, noWeekdays, onlyWeekday, onlyArc, noArcs}
 use Rattle.query.specs.Query.{refusalOf}
 use Rattle.text.specs.Ascii.{ascii}
 use Rattle.text.specs.Decimal.{isDigit, allDigits, withDigit, valueOf, isNumber, numberRead}
+use Rattle.days.specs.Days.{lastDay}
 use Rattle.days.specs.Weekdays.{inSet}
-use Rattle.values.specs.Values.{threeRead, sexagesimalRead, numberOr, angleRead, dayRead, weekdayRead, withWeekday, setRead, weekdaysRead, noneRead}
+use Rattle.values.specs.Values.{threeRead, sexagesimalRead, numberOr, angleRead, dayRead, weekdayRead, withWeekday, inNumbers, withNumberRead, withWord, setRead, setOf, noneRead}
 use Rattle.words.specs.Words.{isSeparator, runLength, upTo, afterFirst, trimmed, afterWords, inFront, pieces, sameBytes, placeIn}
 use Rattle.page.specs.declared.PageRead.{PageRead}
-use Rattle.page.specs.Page.{onlySpan, everyDay, withCondition, rankOf, ranksBefore, firstRefusal, firstValue, secondValue, numbersRead, arcRead, secondArcRead, arcsRead, mostValues, valuesRead, unknownWord, manyValues, badValue, repeatedWord, notEnded, conditionRead, wordsRead, lineRead, firstFault, withLine, withLines, pageAnswer, pageRead}
+use Rattle.page.specs.Page.{isElement, onlySpan, everyDay, withCondition, rankOf, ranksBefore, firstRefusal, firstValue, secondValue, numbersRead, arcRead, secondArcRead, arcsRead, mostValues, valuesRead, unknownWord, manyValues, badValue, repeatedWord, notEnded, conditionRead, wordsRead, lineRead, firstFault, withLine, withLines, pageAnswer, pageRead}
 
 abbrev accepts : Query → PageRead
 accepts q = record { refusal = 0; reason = 0; line = 0; query = q }
@@ -25,33 +30,62 @@ accepts q = record { refusal = 0; reason = 0; line = 0; query = q }
 abbrev refuses : ℕ → ℕ → ℕ → PageRead
 refuses r why n = record { refusal = r; reason = why; line = n; query = onlySpan 0 0 0 }
 
+-- a query: its first and last day, edition, weekdays, tithis, nakshatras, yogas and karanas, and the arcs of mean and
+-- of true places
+abbrev asks : ℕ → ℕ → ℕ → Weekdays → Asked → Asked → Asked → Asked → List BodyArcs → List BodyArcs → Query
+asks first last edition weekdays tithi nakshatra yoga karana arcs places =
+    record {
+      first = first;
+      last = last;
+      edition = edition;
+      weekdays = weekdays;
+      tithi = tithi;
+      nakshatra = nakshatra;
+      yoga = yoga;
+      karana = karana;
+      arcs = arcs;
+      «true_arcs» = places;
+    }
+
+abbrev numbers : ℕ → Asked
+numbers set = record { given = true; set = set }
+
+abbrev arc : ℕ → ℕ → Arc
+arc start width = record { given = true; start = start; width = width }
+
+-- the first degree or the third
+abbrev eitherDegree : BodyArcs
+eitherDegree = record { first = arc 0 3600; second = arc 7200 3600 }
+
 -- days 5 to 9, Mondays, and the Sun in the first degree, in the second edition
 abbrev fourDays : Query
 fourDays =
-    record {
-      first = 5;
-      last = 9;
-      edition = 2;
-      weekdays = onlyWeekday 0;
-      tithi = notAsked;
-      nakshatra = notAsked;
-      yoga = notAsked;
-      arcs = onlyArc (record { given = true; start = 0; width = 3600 }) ∷ replicate 8 noArcs;
-    }
+    asks 5 9 2 (onlyWeekday 0) notAsked notAsked notAsked notAsked (onlyArc (arc 0 3600) ∷ replicate 8 noArcs) (replicate 7 noArcs)
 
 -- days 5 to 9, Mondays, Tuesdays and Sundays, and the Sun in the first degree or in the third, in the first edition
 abbrev eitherArc : Query
 eitherArc =
-    record {
-      first = 5;
-      last = 9;
-      edition = 1;
-      weekdays = record { given = true; set = 67 };
-      tithi = notAsked;
-      nakshatra = notAsked;
-      yoga = notAsked;
-      arcs = record { first = record { given = true; start = 0; width = 3600 }; second = record { given = true; start = 7200; width = 3600 } } ∷ replicate 8 noArcs;
-    }
+    asks 5 9 1 (record { given = true; set = 67 }) notAsked notAsked notAsked notAsked (eitherDegree ∷ replicate 8 noArcs) (replicate 7 noArcs)
+
+-- every day with some of the elements: tithi 14 alone; any tithi; tithi 13 or 14, nakshatra 7 or 26, yoga 4 and karana
+-- 1 or 11
+abbrev withElements : Asked → Asked → Asked → Asked → Query
+withElements tithi nakshatra yoga karana =
+    asks 0 lastDay firstEdition noWeekdays tithi nakshatra yoga karana (replicate 9 noArcs) (replicate 7 noArcs)
+
+abbrev fullMoon : Query
+fullMoon = withElements (numbers 16384) notAsked notAsked notAsked
+
+abbrev anyTithi : Query
+anyTithi = withElements (numbers 1073741823) notAsked notAsked notAsked
+
+abbrev elementSets : Query
+elementSets = withElements (numbers 24576) (numbers 67108992) (numbers 16) (numbers 2050)
+
+-- every day with the true Sun in the first degree or in the third, and Saturn's true place anywhere
+abbrev truePlaces : Query
+truePlaces =
+    asks 0 lastDay firstEdition noWeekdays notAsked notAsked notAsked notAsked (replicate 9 noArcs) (eitherDegree ∷ replicate 5 noArcs ++ onlyArc (arc 5 1296000) ∷ [])
 
 pub worked :
     pageRead (ascii "")
@@ -72,7 +106,22 @@ pub worked :
     ∷ pageRead (ascii "sun 0 1 2\n")
     ∷ pageRead (ascii "sun 0 1 2 3 4\n")
     ∷ pageRead (ascii "sun 0 1 2 0\n")
+    ∷ pageRead (ascii "tithi 14\n")
+    ∷ pageRead (ascii "tithi 29 0 1 2 3 4 5 6 7 8 9 10 11 12 13 14 15 16 17 18 19 20 21 22 23 24 25 26 27 28\n")
+    ∷ pageRead (ascii "karana 11 1\ntithi 13 14 # torn\nnakshatra 26 7\nyoga 4\n")
+    ∷ pageRead (ascii "true_saturn 5 360:0:0\ntrue_sun 0 3600 2:0:0 3600\n")
+    ∷ pageRead (ascii "tithi 1 2 1\n")
+    ∷ pageRead (ascii "tithi 30 30\n")
+    ∷ pageRead (ascii "tithi 31 40\n")
+    ∷ pageRead (ascii "tithi 0 30\n")
+    ∷ pageRead (ascii "tithi\n")
+    ∷ pageRead (ascii "tithi 1 x\n")
+    ∷ pageRead (ascii "karana 1 0\n")
+    ∷ pageRead (ascii "karana 12\n")
+    ∷ pageRead (ascii "true_node 0 1\n")
+    ∷ pageRead (ascii "true_moon 0 0\n")
+    ∷ pageRead (ascii "yoga 0 1 2 3 4 5 6 7 8 9 10 11 12 13 14 15 16 17 18 19 20 21 22 23 24 25 26 27 28 29 30\n")
     ∷ []
-    ≡ accepts everyDay ∷ accepts fourDays ∷ refuses 6 0 1 ∷ refuses 3 unknownWord 2 ∷ refuses 5 0 2 ∷ refuses 3 repeatedWord 2 ∷ refuses 3 notEnded 1 ∷ accepts everyDay ∷ refuses 14 0 2 ∷ refuses 14 0 2 ∷ accepts eitherArc ∷ refuses 3 badValue 1 ∷ refuses 6 0 1 ∷ refuses 3 badValue 1 ∷ refuses 3 manyValues 1 ∷ refuses 3 badValue 1 ∷ refuses 3 manyValues 1 ∷ refuses 6 0 1 ∷ []
-unfolding isSeparator runLength upTo afterFirst trimmed afterWords inFront pieces sameBytes placeIn isDigit allDigits withDigit valueOf isNumber numberRead threeRead sexagesimalRead numberOr angleRead dayRead weekdayRead inSet withWeekday setRead weekdaysRead noneRead isEdition askedInRange weekdaysInRange arcInRange bodyArcsInRange arcsInRange conditionsInRange refusalOf withCondition rankOf ranksBefore firstRefusal firstValue secondValue numbersRead arcRead secondArcRead arcsRead mostValues valuesRead conditionRead wordsRead lineRead firstFault withLine withLines pageAnswer pageRead
+    ≡ accepts everyDay ∷ accepts fourDays ∷ refuses 6 0 1 ∷ refuses 3 unknownWord 2 ∷ refuses 5 0 2 ∷ refuses 3 repeatedWord 2 ∷ refuses 3 notEnded 1 ∷ accepts everyDay ∷ refuses 14 0 2 ∷ refuses 14 0 2 ∷ accepts eitherArc ∷ refuses 3 badValue 1 ∷ refuses 6 0 1 ∷ refuses 3 badValue 1 ∷ refuses 3 manyValues 1 ∷ refuses 3 badValue 1 ∷ refuses 3 manyValues 1 ∷ refuses 6 0 1 ∷ accepts fullMoon ∷ accepts anyTithi ∷ accepts elementSets ∷ accepts truePlaces ∷ refuses 3 badValue 1 ∷ refuses 3 badValue 1 ∷ refuses 6 0 1 ∷ refuses 6 0 1 ∷ refuses 3 badValue 1 ∷ refuses 3 badValue 1 ∷ refuses 6 0 1 ∷ refuses 6 0 1 ∷ refuses 3 unknownWord 1 ∷ refuses 6 0 1 ∷ refuses 3 manyValues 1 ∷ []
+unfolding isSeparator runLength upTo afterFirst trimmed afterWords inFront pieces sameBytes placeIn isDigit allDigits withDigit valueOf isNumber numberRead threeRead sexagesimalRead numberOr angleRead dayRead weekdayRead inSet withWeekday hasNumber withNumber inNumbers withNumberRead withWord setRead setOf noneRead isEdition numbersInRange weekdaysInRange arcInRange bodyArcsInRange arcsInRange trueArcsInRange elementsInRange conditionsInRange refusalOf isElement withCondition rankOf ranksBefore firstRefusal firstValue secondValue numbersRead arcRead secondArcRead arcsRead mostValues valuesRead conditionRead wordsRead lineRead firstFault withLine withLines pageAnswer pageRead
 worked = refl

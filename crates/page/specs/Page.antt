@@ -1,6 +1,6 @@
 -- The grammar of a page: what a line means, and what the lines mean together.
 -- Assumes nothing.
-use mathlib.Core.Bool.{Bool, true, false, cond, _&&_}
+use mathlib.Core.Bool.{Bool, true, false, cond, _&&_, _||_}
 use mathlib.Core.List.{List, [], _∷_}
 use Prim.Native.Nat.{ℕ, suc, _-_}
 use lib.Dec.{eqb, leb, ltb}
@@ -23,9 +23,10 @@ use Rattle.page.specs.declared.Page.{Page}
 use Rattle.page.specs.declared.PageRead.{PageRead}
 use Rattle.words.specs.Words.{hash, upTo, firstWord, afterWord, afterWords, pieces, placeIn}
 use Rattle.page.specs.Names.{keywords}
-use Rattle.values.specs.Values.{isRead, angleRead, dayRead, weekdaysRead, noneRead}
+use Rattle.values.specs.Values.{isRead, angleRead, dayRead, mostWeekdays, mostNumbers, weekdaysRead, numberSetRead, noneRead}
 
--- the keywords, by their places among `keywords`; from `arcKeywords` on those of the nine arcs
+-- the keywords, by their places among `keywords`; from `arcKeywords` on those of the nine bodies' arcs, and from
+-- `trueKeywords` on those of the seven true places'
 abbrev pub spanKeyword : ℕ
 spanKeyword = 0
 
@@ -47,9 +48,19 @@ editionKeyword = 5
 abbrev pub arcKeywords : ℕ
 arcKeywords = 6
 
+abbrev pub karanaKeyword : ℕ
+karanaKeyword = 15
+
+abbrev pub trueKeywords : ℕ
+trueKeywords = 16
+
 -- how many keywords there are: the place of any other word
 abbrev pub keywordCount : ℕ
-keywordCount = 15
+keywordCount = 23
+
+-- the keywords of the four elements, whose values are a set of numbers
+unfoldable pub isElement : ℕ → Bool
+isElement k = eqb k karanaKeyword || (leb tithiKeyword k && leb k yogaKeyword)
 
 -- an edition and a span, without conditions
 abbrev pub onlySpan : ℕ → ℕ → ℕ → Query
@@ -62,7 +73,9 @@ onlySpan edition first last =
       tithi = notAsked;
       nakshatra = notAsked;
       yoga = notAsked;
+      karana = notAsked;
       arcs = replicate 9 noArcs;
+      «true_arcs» = replicate 7 noArcs;
     }
 
 -- every day there is, in the first edition
@@ -75,7 +88,7 @@ noValues refusal = record { refusal = refusal; first = 0; second = 0; arcs = noA
 
 -- the condition of a field, where k is the field's own keyword
 abbrev pub ownAsked : ℕ → ℕ → ℕ → Asked → Asked
-ownAsked own k a old = cond (eqb k own) (record { given = true; value = a }) old
+ownAsked own k a old = cond (eqb k own) (record { given = true; set = a }) old
 
 -- the query with the condition of keyword k and its values
 unfoldable pub withCondition : Query → ℕ → Values → Query
@@ -88,7 +101,9 @@ withCondition q k v =
       tithi = ownAsked tithiKeyword k (v .first) (q .tithi);
       nakshatra = ownAsked nakshatraKeyword k (v .first) (q .nakshatra);
       yoga = ownAsked yogaKeyword k (v .first) (q .yoga);
-      arcs = cond (leb arcKeywords k) (set (q .arcs) (k - arcKeywords) (v .arcs)) (q .arcs);
+      karana = ownAsked karanaKeyword k (v .first) (q .karana);
+      arcs = cond (leb arcKeywords k && ltb k karanaKeyword) (set (q .arcs) (k - arcKeywords) (v .arcs)) (q .arcs);
+      «true_arcs» = cond (leb trueKeywords k) (set (q .«true_arcs») (k - trueKeywords) (v .arcs)) (q .«true_arcs»);
     }
 
 -- the order of refusals: the edition's, a malformed line, a date that does not exist, then as in the search; accepted
@@ -107,7 +122,7 @@ ranksBefore r t = ltb (rankOf r) (rankOf t)
 unfoldable pub firstRefusal : ℕ → ℕ → ℕ
 firstRefusal r t = cond (ranksBefore t r) t r
 
--- a span has two days, and an element or an edition one number
+-- a span has two days, and an edition one number
 unfoldable pub firstValue : ℕ → List ℕ → NumberAnswer
 firstValue k w = cond (eqb k spanKeyword) (dayRead w) (numberRead w)
 
@@ -134,16 +149,18 @@ unfoldable pub arcsRead : ArcRead → ArcRead → Values
 arcsRead a b =
     cond (a .read && b .read) (record { refusal = accepted; first = 0; second = 0; arcs = record { first = a .arc; second = b .arc } }) (noValues badInput)
 
--- the most values that a line may have: seven weekdays, two arcs of two angles, else two
+-- the most values that a line may have: those of a set, two, or two arcs of two angles
 unfoldable pub mostValues : ℕ → ℕ
-mostValues k = cond (eqb k weekdayKeyword) 7 (cond (ltb k arcKeywords) 2 4)
+mostValues k =
+    cond (eqb k weekdayKeyword) mostWeekdays (cond (isElement k) mostNumbers (cond (ltb k arcKeywords) 2 4))
 
--- the values of keyword k in the text behind it: weekdays, two numbers, or arcs
+-- the values of keyword k in the text behind it: a set, two numbers, or arcs
 unfoldable pub valuesRead : ℕ → List ℕ → Values
 valuesRead k t =
-    cond (eqb k weekdayKeyword) (numbersRead (weekdaysRead 7 0 t) (theNumber 0))
+    cond (eqb k weekdayKeyword) (numbersRead (weekdaysRead t) (theNumber 0))
+    (cond (isElement k) (numbersRead (numberSetRead t) (theNumber 0))
     (cond (ltb k arcKeywords) (numbersRead (firstValue k (firstWord t)) (secondValue k (firstWord (afterWord t))))
-    (arcsRead (arcRead (firstWord t) (firstWord (afterWord t))) (secondArcRead (firstWord (afterWords 2 t)) (firstWord (afterWords 3 t)))))
+    (arcsRead (arcRead (firstWord t) (firstWord (afterWord t))) (secondArcRead (firstWord (afterWords 2 t)) (firstWord (afterWords 3 t))))))
 
 -- why a line is malformed: no such keyword; too many values; a value missing, malformed or one too many; a keyword of
 -- an earlier line; no newline at the end

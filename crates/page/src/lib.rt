@@ -7,10 +7,14 @@ use query::Arc;
 use query::Asked;
 use query::BodyArcs;
 use query::Query;
+use query::TRUE_BODIES;
 use query::Weekdays;
+use values::MOST_NUMBERS;
+use values::MOST_WEEKDAYS;
 use values::angle;
 use values::day;
 use values::nothing;
+use values::number_set;
 use values::weekdays;
 use words::after;
 use words::after_word;
@@ -19,18 +23,21 @@ use words::body_place;
 use words::first_word;
 use words::place_in;
 use words::run_length;
+use words::true_place;
 use words::up_to;
 ghost use mathlib.Core.Path.{_≡_};
 ghost use Prim.Native.Nat.{_<_};
 ghost use Rattle.words.specs.Words.{placeIn};
 ghost use Rattle.page.specs.Names.{keywords};
-ghost use Rattle.page.specs.Page.{keywordCount, onlySpan, noValues, withCondition, rankOf, ranksBefore, firstRefusal, firstValue, secondValue, numbersRead, arcRead, secondArcRead, arcsRead, mostValues, valuesRead, malformedLine, conditionRead, lineRead, firstFault, withFault, withLine, emptyPage, pageAnswer, pageRead};
+ghost use Rattle.page.specs.Page.{keywordCount, isElement, onlySpan, noValues, withCondition, rankOf, ranksBefore, firstRefusal, firstValue, secondValue, numbersRead, arcRead, secondArcRead, arcsRead, mostValues, valuesRead, malformedLine, conditionRead, lineRead, firstFault, withFault, withLine, emptyPage, pageAnswer, pageRead};
 
-// The words that a line begins with, and behind them the names of the bodies; each is known by its place among them
-// all.
+// The words that a line begins with, behind them the names of the bodies, then `karana` and the names of the true
+// places; each is known by its place among them all.
 const CONDITIONS: [u8; 41] = *b"span weekday tithi nakshatra yoga edition";
 
-const SPAN: usize = 0;
+const KARANA_NAME: [u8; 6] = *b"karana";
+
+pub const SPAN: usize = 0;
 
 const WEEKDAY: usize = 1;
 
@@ -40,13 +47,18 @@ const NAKSHATRA: usize = 3;
 
 const YOGA: usize = 4;
 
-const EDITION: usize = 5;
+pub const EDITION: usize = 5;
 
 // The Sun's, and after it the other bodies'.
-const ARCS: usize = 6;
+pub const ARCS: usize = 6;
+
+pub const KARANA: usize = 15;
+
+// The true Sun's, and after it the other true places'.
+pub const TRUE_ARCS: usize = 16;
 
 // How many keywords there are.
-const KEYWORD_COUNT: usize = 15;
+pub const KEYWORD_COUNT: usize = 23;
 
 // Why a line is malformed.
 pub const UNKNOWN_WORD: u32 = 1;
@@ -68,8 +80,8 @@ pub struct PageRead {
     pub query: Query,
 }
 
-// The values of a line that have been read: two numbers, of which a set of weekdays is the first, or a body's arcs. A
-// refusal has all zeros.
+// The values of a line that have been read: two numbers, of which a set of weekdays or of numbers is the first, or a
+// body's arcs. A refusal has all zeros.
 struct Values {
     refusal: u32,
     first: u32,
@@ -124,7 +136,9 @@ fn only_span(edition: u32, first: u32, last: u32) -> Query
         tithi: Asked::NONE,
         nakshatra: Asked::NONE,
         yoga: Asked::NONE,
+        karana: Asked::NONE,
         arcs: [BodyArcs::NONE; 9],
+        true_arcs: [BodyArcs::NONE; TRUE_BODIES],
     }
 }
 
@@ -146,14 +160,9 @@ fn with_condition(query: Query, keyword: usize, values: Values) -> Query
     ensures { λ r. ⌜ r ≡ withCondition query keyword values ⌝ }
 {
     let mut query = query;
-    let asked = Asked {
-        given: true,
-        value: values.first,
-    };
-    let weekdays = Weekdays {
-        given: true,
-        set: values.first,
-    };
+    let set = values.first;
+    let asked = Asked { given: true, set };
+    let weekdays = Weekdays { given: true, set };
     if keyword == SPAN {
         query.first = values.first;
         query.last = values.second;
@@ -179,11 +188,22 @@ fn with_condition(query: Query, keyword: usize, values: Values) -> Query
         query.edition = values.first;
         return query;
     }
-    let body = keyword - ARCS;
+    if keyword == KARANA {
+        query.karana = asked;
+        return query;
+    }
     let of_body = values.arcs;
-    let mut arcs = query.arcs;
-    arcs[body] = of_body;
-    query.arcs = arcs;
+    if keyword < KARANA {
+        let body = keyword - ARCS;
+        let mut arcs = query.arcs;
+        arcs[body] = of_body;
+        query.arcs = arcs;
+        return query;
+    }
+    let place = keyword - TRUE_ARCS;
+    let mut true_arcs = query.true_arcs;
+    true_arcs[place] = of_body;
+    query.true_arcs = true_arcs;
     query
 }
 
@@ -313,12 +333,27 @@ fn both_arcs(first: ArcRead, second: ArcRead) -> Values
     }
 }
 
-// The most values that a line may have: seven weekdays, and two arcs of two angles each.
+// Whether a keyword's values are a set of numbers.
+fn is_element(keyword: usize) -> bool
+    ensures { λ r. ⌜ r ≡ isElement keyword ⌝ }
+{
+    if keyword == KARANA {
+        return true;
+    }
+    if keyword < TITHI {
+        return false;
+    }
+    keyword <= YOGA
+}
+
+// The most values that a line may have: those of a set, two, or two arcs of two angles each.
 fn most_values(keyword: usize) -> usize
     ensures { λ r. ⌜ r ≡ mostValues keyword ⌝ }
 {
     if keyword == WEEKDAY {
-        7
+        MOST_WEEKDAYS
+    } else if is_element(keyword) {
+        MOST_NUMBERS
     } else if keyword < ARCS {
         2
     } else {
@@ -331,6 +366,9 @@ fn read_values(keyword: usize, text: &[u8]) -> Values
 {
     if keyword == WEEKDAY {
         return numbers(weekdays(text), NumberAnswer::accepted(0));
+    }
+    if is_element(keyword) {
+        return numbers(number_set(text), NumberAnswer::accepted(0));
     }
     let others = after_word(text);
     let first = first_word(text);
@@ -382,14 +420,22 @@ fn condition(keyword: usize, values: Values) -> LineRead
 }
 
 // A word's place among the keywords; KEYWORD_COUNT for a word that is none.
-fn keyword_of(word: &[u8]) -> usize
+pub fn keyword_of(word: &[u8]) -> usize
     ensures { λ r. ⌜ r ≡ placeIn keywords (now (word .entry)) ⌝ }
 {
     let place = place_in(&CONDITIONS, word);
     if place < ARCS {
         return place;
     }
-    ARCS + body_place(word)
+    let of_body = ARCS + body_place(word);
+    if of_body < KARANA {
+        return of_body;
+    }
+    let element = place_in(&KARANA_NAME, word);
+    if element == 0 {
+        return KARANA;
+    }
+    TRUE_ARCS + true_place(word)
 }
 
 fn read_line(line: &[u8]) -> LineRead

@@ -14,7 +14,7 @@ use Rattle.longitudes.specs.Longitudes.{circle, longitudeAt}
 use Rattle.longitudes.proofs.Table.{longitude-small}
 use Rattle.panchanga.specs.declared.Panchanga.{Panchanga}
 use Rattle.panchanga.specs.TrueLongitudes.{firstEdition, isEdition}
-use Rattle.panchanga.specs.OnDays.{trueSunAt, trueMoonAt, tithiAt, nakshatraAt, yogaAt, karanaAt, noPanchanga, panchangaOf, panchangaBy, tithiBy, inEdition}
+use Rattle.panchanga.specs.OnDays.{trueSunAt, trueMoonAt, tithiAt, nakshatraAt, yogaAt, karanaAt, lightsOf, noPanchanga, panchangaOf, panchangaBy, tithiBy, inEdition}
 use Rattle.panchanga.specs.Parts.{refusalFor}
 
 -- both tests
@@ -45,6 +45,20 @@ module _ (e : ℕ) (d : Day) where
         go true true et eu k = absurd (k refl)
         go true false et eu k = refused (f e) d eu
         go false u et eu k = refl
+
+  -- both lights
+  pub lights-given : Accepted e d → lightsOf e d ≡ record { refusal = 0; sun = trueSunAt d; moon = trueMoonAt e d }
+  unfolding lightsOf
+  lights-given a = rw (a .edition, a .range)
+
+  pub lights-refused : (refusalFor e d ≡ accepted → ⊥) → lightsOf e d ≡ record { refusal = refusalFor e d; sun = 0; moon = 0 }
+  unfolding lightsOf refusalFor
+  lights-refused r = go (isEdition e) (inRange d) refl refl r
+    where
+      go : (t u : Bool) → isEdition e ≡ t → inRange d ≡ u → (_≡_ {A = ℕ} (cond t (cond u 0 2) 14) 0 → ⊥) → lightsOf e d ≡ record { refusal = cond t (cond u 0 2) 14; sun = 0; moon = 0 }
+      go true true et eu k = absurd (k refl)
+      go true false et eu k = rw (et, eu)
+      go false u et eu k = rw et
 
   -- the elements together
   pub elements-given : Accepted e d → panchangaOf e d ≡ record { refusal = 0; sun = trueSunAt d; moon = trueMoonAt e d; tithi = tithiAt e d; nakshatra = nakshatraAt e d; yoga = yogaAt e d; karana = karanaAt e d }

@@ -10,6 +10,7 @@ use Rattle.days.specs.Days.{inRange, theNumber, noNumber, onDay}
 use Rattle.longitudes.specs.declared.Body.the-variants.{Sun, Moon, MoonApogee}
 use Rattle.longitudes.specs.Longitudes.{circle, longitudeAt}
 use Rattle.longitudes.specs.Answers.{bodyNumber}
+use Rattle.panchanga.specs.declared.Lights.{Lights}
 use Rattle.panchanga.specs.declared.Panchanga.{Panchanga}
 use Rattle.panchanga.specs.TrueLongitudes.{trueSun, isEdition, trueMoon}
 use Rattle.panchanga.specs.Elements.{tithi, nakshatra, yoga, karana}
@@ -32,6 +33,15 @@ yogaAt e d = yoga (trueSunAt d) (trueMoonAt e d)
 
 unfoldable pub karanaAt : ℕ → Day → ℕ
 karanaAt e d = karana (trueSunAt d) (trueMoonAt e d)
+
+-- the true Sun and Moon; refusal 14 for another edition, then 2, with zeros
+unfoldable pub lightsOf : ℕ → Day → Lights
+lightsOf e d =
+    cond (isEdition e)
+    (cond (inRange d)
+    (record { refusal = accepted; sun = trueSunAt d; moon = trueMoonAt e d })
+    (record { refusal = outOfRange; sun = 0; moon = 0 }))
+    (record { refusal = badEdition; sun = 0; moon = 0 })
 
 abbrev pub noPanchanga : ℕ → Panchanga
 noPanchanga refusal = record { refusal = refusal; sun = 0; moon = 0; tithi = 0; nakshatra = 0; yoga = 0; karana = 0 }

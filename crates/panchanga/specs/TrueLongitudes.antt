@@ -52,6 +52,10 @@ sunAnomaly mean = differenceOf sunApogee mean
 abbrev pub sunEquation : ℕ → ℕ
 sunEquation mean = equation sunScale sunDivisor (sunAnomaly mean)
 
+-- the largest that it has, in seconds of arc (the law `shown-near`)
+abbrev pub largestSunEquation : ℕ
+largestSunEquation = 7845
+
 -- the editions: paper 01's rule, and paper 02's second one
 abbrev pub firstEdition : ℕ
 firstEdition = 1

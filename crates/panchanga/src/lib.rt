@@ -9,12 +9,19 @@ ghost use mathlib.Core.Path.{_≡_};
 ghost use mathlib.Core.Bool.{true};
 ghost use Prim.Native.Nat.{_/_, _%_, _<_, _≤_};
 ghost use Rattle.days.specs.Days.{inRange};
-ghost use Rattle.longitudes.specs.Longitudes.{circle, longitudeAt};
+ghost use Rattle.longitudes.specs.Longitudes.{circle, differenceOf, longitudeAt};
 ghost use Rattle.longitudes.specs.Answers.{bodyNumber};
 ghost use Rattle.panchanga.specs.TrueLongitudes.{bhuja, bhujaProduct, equation, corrected, trueLongitude, sunAnomaly, sunEquation, trueSun, trueMoon, isEdition};
 ghost use Rattle.panchanga.specs.Elements.{tithi, nakshatra, yoga, karana, karanaAfter};
-ghost use Rattle.panchanga.specs.OnDays.{trueSunAt, trueMoonAt, trueSunOf, trueMoonOf, tithiOf, nakshatraOf, yogaOf, karanaOf, noPanchanga, thePanchanga, panchangaOf, panchangaBy, tithiBy};
+ghost use Rattle.panchanga.specs.OnDays.{trueSunAt, trueMoonAt, lightsOf, trueSunOf, trueMoonOf, tithiOf, nakshatraOf, yogaOf, karanaOf, noPanchanga, thePanchanga, panchangaOf, panchangaBy, tithiBy};
 ghost use Rattle.panchanga.specs.Parts.{moonAloneAt, moonIn, refusalFor};
+
+// The true Sun and Moon; a refusal has all zeros.
+pub struct Lights {
+    pub refusal: u32,
+    pub sun: u32,
+    pub moon: u32,
+}
 
 // Sun and Moon are true longitudes; a refusal has all zeros.
 pub struct Panchanga {
@@ -85,14 +92,22 @@ fn equation_of(scale: u64, divisor: u64, anomaly: u32) -> u32
     seconds as u32
 }
 
+// A number below two circles, reduced: a test for a division.
+fn within_circle(x: u32) -> u32
+    requires { ⌜ x < 2592000 ⌝ }
+    ensures { λ r. ⌜ (r ≡ x % 1296000) × (r < 1296000) ⌝ }
+{
+    if x < CIRCLE { x } else { x - CIRCLE }
+}
+
 fn correct(mean: u32, anomaly: u32, size: u32) -> u32
     requires { ⌜ (mean < 1296000) × (size < 1296000) ⌝ }
     ensures { λ r. ⌜ (r ≡ corrected mean anomaly size) × (r < 1296000) ⌝ }
 {
     if anomaly <= HALF {
-        (mean + size) % CIRCLE
+        within_circle(mean + size)
     } else {
-        (mean + CIRCLE - size) % CIRCLE
+        within_circle(mean + CIRCLE - size)
     }
 }
 
@@ -162,23 +177,39 @@ fn moon_on(edition: u32, moon: u32, day: Day) -> u32
     moon_in(edition, moon, sun)
 }
 
-fn tithi_of(sun: u32, moon: u32) -> u32
-    ensures { λ r. ⌜ r ≡ tithi sun moon ⌝ }
+// As `longitudes::difference`, with two tests for two divisions where both are on the circle, as places are.
+pub fn difference_on_circle(a: u32, b: u32) -> u32
+    ensures { λ r. ⌜ r ≡ differenceOf a b ⌝ }
 {
-    longitudes::difference(moon, sun) / TITHI
+    if a < CIRCLE {
+        if b < CIRCLE {
+            if b <= a {
+                return a - b;
+            }
+            return a + CIRCLE - b;
+        }
+    }
+    longitudes::difference(a, b)
 }
 
-fn nakshatra_of(moon: u32) -> u32
+// The elements of a true Sun and Moon.
+pub fn tithi_of(sun: u32, moon: u32) -> u32
+    ensures { λ r. ⌜ r ≡ tithi sun moon ⌝ }
+{
+    difference_on_circle(moon, sun) / TITHI
+}
+
+pub fn nakshatra_of(moon: u32) -> u32
     ensures { λ r. ⌜ r ≡ nakshatra moon ⌝ }
 {
     moon / NAKSHATRA
 }
 
-fn yoga_of(sun: u32, moon: u32) -> u32
-    requires { ⌜ (sun < 1296000) × (moon < 1296000) ⌝ }
+pub fn yoga_of(sun: u32, moon: u32) -> u32
     ensures { λ r. ⌜ r ≡ yoga sun moon ⌝ }
 {
-    (sun + moon) % CIRCLE / NAKSHATRA
+    let sum = (sun as u64 + moon as u64) % CIRCLE as u64;
+    sum as u32 / NAKSHATRA
 }
 
 fn karana_after(halves: u32) -> u32
@@ -194,10 +225,10 @@ fn karana_after(halves: u32) -> u32
     }
 }
 
-fn karana_of(sun: u32, moon: u32) -> u32
+pub fn karana_of(sun: u32, moon: u32) -> u32
     ensures { λ r. ⌜ r ≡ karana sun moon ⌝ }
 {
-    karana_after(longitudes::difference(moon, sun) / HALF_TITHI)
+    karana_after(difference_on_circle(moon, sun) / HALF_TITHI)
 }
 
 // The refusal of a call for an edition and a day, or 0.
@@ -211,6 +242,25 @@ fn refusal_for(edition: u32, day: Day) -> u32
         refusal::NONE
     } else {
         refusal::OUT_OF_RANGE
+    }
+}
+
+// Both lights at one go.
+pub fn true_lights(edition: u32, day: Day) -> Lights
+    ensures { λ r. ⌜ r ≡ lightsOf edition day ⌝ }
+{
+    let refusal = refusal_for(edition, day);
+    if refusal != refusal::NONE {
+        return Lights {
+            refusal,
+            sun: 0,
+            moon: 0,
+        };
+    }
+    Lights {
+        refusal: refusal::NONE,
+        sun: sun_on(day),
+        moon: moon_on(edition, moon_alone_on(day), day),
     }
 }
 

@@ -10,7 +10,7 @@ use Rattle.days.specs.Days.{lastDay}
 use Rattle.panchanga.specs.TrueLongitudes.{isEdition}
 use Rattle.query.specs.declared.BodyArcs.{BodyArcs}
 use Rattle.query.specs.declared.Query.{Query}
-use Rattle.query.specs.Conditions.{askedInRange, weekdaysInRange, arcInRange, bodyArcsInRange, arcsInRange, conditionsInRange}
+use Rattle.query.specs.Conditions.{weekdaysInRange, arcInRange, bodyArcsInRange, arcsInRange, elementsInRange, conditionsInRange}
 use Rattle.query.specs.Query.{sunArcs, refusalOf}
 
 and-right : (a b : Bool) → (a && b) ≡ true → b ≡ true
@@ -38,8 +38,7 @@ sun-of : (q : Query) → conditionsInRange q ≡ true → bodyArcsInRange (sunAr
 unfolding conditionsInRange arcsInRange
 sun-of q e =
     and-left (bodyArcsInRange (sunArcs q)) _
-    (and-right (askedInRange (q .yoga) 26) _
-    (and-right (askedInRange (q .nakshatra) 26) _ (and-right (askedInRange (q .tithi) 29) _ (and-right (weekdaysInRange (q .weekdays)) _ e))))
+    (and-left (arcsInRange (q .arcs)) _ (and-right (elementsInRange q) _ (and-right (weekdaysInRange (q .weekdays)) _ e)))
 
 pub accepted-by : (q : Query) → refusalOf q ≡ 0 → Accepted q
 unfolding refusalOf

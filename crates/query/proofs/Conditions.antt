@@ -1,23 +1,23 @@
 -- A test of each of the bodies, by its outcomes; and a day's conditions from the outcomes of their tests, case by case.
 -- Assumes nothing.
-use mathlib.Core.Path.{_≡_, refl, sym, ap, _∙_}
+use mathlib.Core.Path.{_≡_, refl, sym, _∙_}
 use mathlib.Core.Bool.{Bool, true, false, cond, not, _&&_, and-true, and-false, or-false, true≢false, false≢true}
 use mathlib.Core.List.{List, [], _∷_}
 use Prim.Native.Nat.{ℕ, zero, suc, _≤_, _<_}
 use native.Mathlib.Omega.{arith}
 use lib.Dec.{lit<}
-use borrow.Author.Tests.{not-true}
+use borrow.Author.Tests.{not-true, not-false}
 use Rattle.days.specs.declared.Day.{Day}
 use Rattle.days.specs.Days.{lastDay, inRange, pairAt, weekdayOn}
 use Rattle.days.proofs.Laws.{pair-in-range}
-use Rattle.panchanga.specs.declared.Panchanga.{Panchanga}
+use Rattle.panchanga.specs.declared.Lights.{Lights}
 use Rattle.panchanga.specs.TrueLongitudes.{isEdition}
-use Rattle.panchanga.specs.OnDays.{tithiAt, nakshatraAt, yogaAt, panchangaOf}
-use Rattle.panchanga.proofs.Answers.{elements-given}
+use Rattle.panchanga.specs.OnDays.{trueSunAt, trueMoonAt, tithiAt, nakshatraAt, yogaAt, karanaAt, lightsOf}
+use Rattle.panchanga.proofs.Answers.{lights-given}
 use Rattle.query.specs.declared.Asked.{Asked}
 use Rattle.query.specs.declared.BodyArcs.{BodyArcs}
 use Rattle.query.specs.declared.Query.{Query}
-use Rattle.query.specs.Conditions.{eachOther, eachBody, meets, weekdayMet, ifGiven, givenArcs, inArc, inSome, arcsAt, bodyArcsInRange, arcsInRange, bodyMet, arcsMet, elementsMet}
+use Rattle.query.specs.Conditions.{eachOther, eachBody, eachPlace, meets, weekdayMet, ifGiven, givenArcs, inArc, inSome, arcsAt, bodyArcsInRange, arcsInRange, trueArcsInRange, bodyMet, arcsMet, placeMet, trueArcsMet, elementsMet, queryElementsMet}
 use Rattle.query.specs.Parts.{otherArcsMet, othersMet}
 use Rattle.query.specs.Query.{conditionsMet}
 
@@ -43,6 +43,22 @@ module _ (p : ℕ → Bool) where
   each-false zero u e = rw e
   each-false (suc k) u e = rw (other-false (suc k) (omega arith) u e) (and-false (p 0))
 
+-- and of the seven true longitudes
+module _ (p : ℕ → Bool) where
+  pub places-true : ((k : ℕ) → k < 7 → p k ≡ true) → eachPlace p ≡ true
+  places-true h =
+      rw (h 0 (lit< tt), h 1 (lit< tt), h 2 (lit< tt), h 3 (lit< tt), h 4 (lit< tt), h 5 (lit< tt), h 6 (lit< tt))
+
+  pub place-false : (k : ℕ) → k < 7 → p k ≡ false → eachPlace p ≡ false
+  place-false zero u e = simp e
+  place-false (suc zero) u e = simp (e, and-false)
+  place-false (suc (suc zero)) u e = simp (e, and-false)
+  place-false (suc (suc (suc zero))) u e = simp (e, and-false)
+  place-false (suc (suc (suc (suc zero)))) u e = simp (e, and-false)
+  place-false (suc (suc (suc (suc (suc zero))))) u e = simp (e, and-false)
+  place-false (suc (suc (suc (suc (suc (suc zero)))))) u e = simp (e, and-false)
+  place-false (suc (suc (suc (suc (suc (suc (suc n))))))) u e = absurd (omega arith)
+
 pub arcs-true : (arcs : List BodyArcs) → ((k : ℕ) → k < 9 → bodyArcsInRange (arcsAt arcs k) ≡ true) → arcsInRange arcs ≡ true
 unfolding arcsInRange
 arcs-true arcs h = each-true (λ (body : ℕ). bodyArcsInRange (arcsAt arcs body)) h
@@ -50,6 +66,23 @@ arcs-true arcs h = each-true (λ (body : ℕ). bodyArcsInRange (arcsAt arcs body
 pub arcs-false : (arcs : List BodyArcs) (k : ℕ) → k < 9 → bodyArcsInRange (arcsAt arcs k) ≡ false → arcsInRange arcs ≡ false
 unfolding arcsInRange
 arcs-false arcs k h e = each-false (λ (body : ℕ). bodyArcsInRange (arcsAt arcs body)) k h e
+
+pub true-arcs-true : (arcs : List BodyArcs) → ((k : ℕ) → k < 7 → bodyArcsInRange (arcsAt arcs k) ≡ true) → trueArcsInRange arcs ≡ true
+unfolding trueArcsInRange
+true-arcs-true arcs h = places-true (λ (place : ℕ). bodyArcsInRange (arcsAt arcs place)) h
+
+pub true-arcs-false : (arcs : List BodyArcs) (k : ℕ) → k < 7 → bodyArcsInRange (arcsAt arcs k) ≡ false → trueArcsInRange arcs ≡ false
+unfolding trueArcsInRange
+true-arcs-false arcs k h e = place-false (λ (place : ℕ). bodyArcsInRange (arcsAt arcs place)) k h e
+
+module _ (edition : ℕ) (arcs : List BodyArcs) (d : Day) where
+  pub places-met : ((k : ℕ) → k < 7 → placeMet edition arcs d k ≡ true) → trueArcsMet edition arcs d ≡ true
+  unfolding trueArcsMet
+  places-met h = places-true (placeMet edition arcs d) h
+
+  pub place-not-met : (k : ℕ) → k < 7 → placeMet edition arcs d k ≡ false → trueArcsMet edition arcs d ≡ false
+  unfolding trueArcsMet
+  place-not-met k h e = place-false (placeMet edition arcs d) k h e
 
 -- of one or two arcs, where the first is given and has a longitude, and where not
 module _ (a : BodyArcs) (x : ℕ) where
@@ -99,38 +132,69 @@ module _ (arcs : List BodyArcs) (d : Day) where
   unfolding otherArcsMet
   last-arc-met found a b c e f g h k = rw (a, b, c, e, f, g, h, k)
 
--- what is handed back of the elements of a day in range
-pub record ElementsOn (edition : ℕ) (d : Day) (found : Panchanga) : Type 0 where
-  pub tithi : found .tithi ≡ tithiAt edition d
-  pub nakshatra : found .nakshatra ≡ nakshatraAt edition d
-  pub yoga : found .yoga ≡ yogaAt edition d
+-- what is handed back of the lights of a day in range
+pub record LightsOn (edition : ℕ) (d : Day) (found : Lights) : Type 0 where
+  pub sun : found .sun ≡ trueSunAt d
+  pub moon : found .moon ≡ trueMoonAt edition d
 
-pub elements-on : (edition : ℕ) (d : Day) (found : Panchanga) → (inRange d ≡ true) × (isEdition edition ≡ true) → found ≡ panchangaOf edition d → ElementsOn edition d found
-elements-on edition d found r e =
-    let given = e ∙ elements-given edition d (record { edition = r .1; range = r .0 }) in
-    record { tithi = rw given; nakshatra = rw given; yoga = rw given }
+pub lights-on : (edition : ℕ) (d : Day) (found : Lights) → (inRange d ≡ true) × (isEdition edition ≡ true) → found ≡ lightsOf edition d → LightsOn edition d found
+lights-on edition d found r e =
+    let given = e ∙ lights-given edition d (record { edition = r .1; range = r .0 }) in
+    record { sun = rw given; moon = rw given }
 
 -- the elements that are asked for, of a day in range in an edition
-module _ (edition : ℕ) (tithi nakshatra yoga : Asked) (d : Day) where
-  pub only-nakshatra : (found : Bool) → tithi .given ≡ false → yoga .given ≡ false → found ≡ meets nakshatra (nakshatraAt edition d) → found ≡ elementsMet edition tithi nakshatra yoga d
+module _ (edition : ℕ) (tithi nakshatra yoga karana : Asked) (d : Day) where
+  pub only-nakshatra :
+      (found : Bool) →
+      tithi .given ≡ false →
+      yoga .given ≡ false →
+      karana .given ≡ false →
+      found ≡ meets nakshatra (nakshatraAt edition d) →
+      found ≡ elementsMet edition tithi nakshatra yoga karana d
   unfolding elementsMet meets
-  only-nakshatra found t y e = e ∙ rw (t, y) (sym (and-true (meets nakshatra (nakshatraAt edition d))))
+  only-nakshatra found t y k e = e ∙ rw (t, y, k) (sym (and-true (meets nakshatra (nakshatraAt edition d))))
 
   -- in turn: the first that is not met decides, else the last
-  pub tithi-not-met : meets tithi (tithiAt edition d) ≡ false → false ≡ elementsMet edition tithi nakshatra yoga d
+  pub tithi-not-met : meets tithi (tithiAt edition d) ≡ false → false ≡ elementsMet edition tithi nakshatra yoga karana d
   unfolding elementsMet
   tithi-not-met e = rw e
 
-  pub nakshatra-not-met : meets tithi (tithiAt edition d) ≡ true → meets nakshatra (nakshatraAt edition d) ≡ false → false ≡ elementsMet edition tithi nakshatra yoga d
-  unfolding elementsMet
-  nakshatra-not-met e f = rw (e, f)
+  module _ (t : meets tithi (tithiAt edition d) ≡ true) where
+    pub nakshatra-not-met : meets nakshatra (nakshatraAt edition d) ≡ false → false ≡ elementsMet edition tithi nakshatra yoga karana d
+    unfolding elementsMet
+    nakshatra-not-met f = rw (t, f)
 
-  pub yoga-decides : (found : Bool) → meets tithi (tithiAt edition d) ≡ true → meets nakshatra (nakshatraAt edition d) ≡ true → found ≡ meets yoga (yogaAt edition d) → found ≡ elementsMet edition tithi nakshatra yoga d
-  unfolding elementsMet
-  yoga-decides found e f g = g ∙ rw (e, f)
+    module _ (n : meets nakshatra (nakshatraAt edition d) ≡ true) where
+      pub yoga-not-met : meets yoga (yogaAt edition d) ≡ false → false ≡ elementsMet edition tithi nakshatra yoga karana d
+      unfolding elementsMet
+      yoga-not-met f = rw (t, n, f)
 
-  pub elements-tested : {found : Bool} → (inRange d ≡ true) × (isEdition edition ≡ true) → found ≡ elementsMet edition tithi nakshatra yoga d → found ≡ (isEdition edition && (inRange d && elementsMet edition tithi nakshatra yoga d))
+      pub karana-decides : (found : Bool) → meets yoga (yogaAt edition d) ≡ true → found ≡ meets karana (karanaAt edition d) → found ≡ elementsMet edition tithi nakshatra yoga karana d
+      unfolding elementsMet
+      karana-decides found y g = g ∙ rw (t, n, y)
+
+  pub elements-tested : {found : Bool} → (inRange d ≡ true) × (isEdition edition ≡ true) → found ≡ elementsMet edition tithi nakshatra yoga karana d → found ≡ (isEdition edition && (inRange d && elementsMet edition tithi nakshatra yoga karana d))
   elements-tested r e = e ∙ rw (r .0, r .1)
+
+-- what the test of the elements, with those of the edition and the pair, says of the conditions together
+module _ (q : Query) (d : Day) (found : Bool) (e : found ≡ (isEdition (q .edition) && (inRange d && queryElementsMet q d))) where
+  pub elements-not-met : inRange d ≡ true → otherArcsMet (q .arcs) d ≡ true → not found ≡ true → false ≡ othersMet q d
+  unfolding othersMet
+  elements-not-met r a n =
+      let f : (isEdition (q .edition) && (inRange d && queryElementsMet q d)) ≡ false = sym e ∙ not-true found n in
+      go (isEdition (q .edition)) (queryElementsMet q d) refl (rw r at f)
+    where
+      go : (t m : Bool) → queryElementsMet q d ≡ m → (t && m) ≡ false → false ≡ (t && (inRange d && (otherArcsMet (q .arcs) d && (queryElementsMet q d && trueArcsMet (q .edition) (q .«true_arcs») d))))
+      go false m f k = refl
+      go true m f k = rw (r, a, f, k)
+
+  pub elements-are-met : not found ≡ false → (isEdition (q .edition) ≡ true) × (queryElementsMet q d ≡ true)
+  elements-are-met n = go (isEdition (q .edition)) (inRange d) (queryElementsMet q d) refl refl (sym e ∙ not-false found n)
+    where
+      go : (t r m : Bool) → isEdition (q .edition) ≡ t → queryElementsMet q d ≡ m → (t && (r && m)) ≡ true → (isEdition (q .edition) ≡ true) × (queryElementsMet q d ≡ true)
+      go true true m f g k = (f, g ∙ k)
+      go true false m f g k = absurd (false≢true k)
+      go false r m f g k = absurd (false≢true k)
 
 -- the conditions of day n, in the order in which they are tested
 module _ (q : Query) (n : ℕ) where

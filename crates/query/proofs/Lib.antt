@@ -1,2 +1,5 @@
 pub mod Conditions
 pub mod Accepted
+pub mod Numbers
+pub mod TrueBodies
+pub mod SunArcs

@@ -8,7 +8,7 @@ use Rattle.days.specs.Days.{weekdayOn, pairAt, refusedSpanOr}
 use Rattle.panchanga.specs.TrueLongitudes.{isEdition}
 use Rattle.query.specs.declared.BodyArcs.{BodyArcs}
 use Rattle.query.specs.declared.Query.{Query}
-use Rattle.query.specs.Conditions.{weekdayMet, arcsAt, arcsMet, queryElementsMet, conditionsInRange}
+use Rattle.query.specs.Conditions.{weekdayMet, arcsAt, arcsMet, queryElementsMet, trueArcsMet, conditionsInRange}
 
 -- the Sun's arcs
 abbrev pub sunArcs : Query → BodyArcs
@@ -16,7 +16,9 @@ sunArcs q = arcsAt (q .arcs) 0
 
 -- day n meets all conditions given
 unfoldable pub conditionsMet : Query → ℕ → Bool
-conditionsMet q n = arcsMet (q .arcs) (pairAt n) && (weekdayMet (q .weekdays) (weekdayOn n) && queryElementsMet q (pairAt n))
+conditionsMet q n =
+    arcsMet (q .arcs) (pairAt n)
+    && (weekdayMet (q .weekdays) (weekdayOn n) && (queryElementsMet q (pairAt n) && trueArcsMet (q .edition) (q .«true_arcs») (pairAt n)))
 
 -- a day of the span: from the first day to the last, both counted
 abbrev pub inSpan : Query → ℕ → Bool

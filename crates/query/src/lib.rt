@@ -1,28 +1,47 @@
 // A query: its conditions, their ranges, and whether a day meets them.
 use days::Day;
+use days::NumberAnswer;
 use days::refusal;
 use longitudes::Body;
 use longitudes::CIRCLE;
+use planets::Planet;
 ghost use mathlib.Core.Path.{_≡_};
 ghost use mathlib.Core.Bool.{true, _&&_};
-ghost use Prim.Native.Nat.{_≤_};
+ghost use Prim.Native.Nat.{_≤_, min};
 ghost use lib.Dec.{leb};
 ghost use Rattle.days.specs.Days.{lastDay, weekdayOn, inRange};
 ghost use Rattle.longitudes.specs.Longitudes.{longitudeAt};
 ghost use Rattle.longitudes.specs.Answers.{bodyNumber};
 ghost use Rattle.panchanga.specs.TrueLongitudes.{isEdition};
 ghost use Rattle.panchanga.specs.OnDays.{nakshatraAt};
-ghost use Rattle.query.specs.Conditions.{onlyWeekday, onlyArc, meets, weekdayMet, arcsGiven, givenArcs, inArc, inSome, inArcs, askedInRange, weekdaysInRange, arcInRange, bodyArcsInRange, arcsInRange, conditionsInRange, elementsMet};
+ghost use Rattle.query.specs.Conditions.{onlyWeekday, onlyArc, hasNumber, withNumber, meets, weekdayMet, arcsGiven, givenArcs, inArc, inSome, inArcs, numbersInRange, weekdaysInRange, arcInRange, bodyArcsInRange, arcsInRange, trueArcsInRange, elementsInRange, conditionsInRange, elementsMet, trueLongitudeAt, trueArcsMet};
 ghost use Rattle.query.specs.Query.{refusalOf};
+ghost use Rattle.query.specs.TrueBodies.{trueNumber, trueLongitudeOf};
+ghost use Rattle.query.specs.SunArcs.{widerArc, widerArcs, withSunArcs};
 ghost use Rattle.query.specs.Parts.{otherArcsMet, othersMet};
 
 // The set of all seven weekdays.
 const EVERY_WEEKDAY: u32 = 127;
 
-// A number that is asked for. Where it is not given, every number will do and `value` means nothing.
+// The numbers from here up share a bit in a set of numbers.
+const SHARED_BIT: u32 = 31;
+
+// A set of tithis, of nakshatras or yogas and of karanas is below the bit behind the largest; that of karana 0, which
+// is none, is left out.
+const TITHIS: u32 = 1073741824;
+
+const NAKSHATRAS: u32 = 134217728;
+
+const KARANAS: u32 = 4096;
+
+// The largest equation of the Sun: the true Sun is never farther from the mean one.
+const LARGEST_EQUATION: u32 = 7845;
+
+// Numbers that are asked for, a bit for each, that of 0 the lowest; any of them will do. Numbers from 31 up share a
+// bit, which no element has. Where none are given, every number will do and `set` means nothing.
 pub struct Asked {
     pub given: bool,
-    pub value: u32,
+    pub set: u32,
 }
 
 // The weekdays that will do, a bit for each, Monday's the lowest. Where they are not given, every weekday will do and
@@ -45,8 +64,32 @@ pub struct BodyArcs {
     pub second: Arc,
 }
 
-// Paper 01's reading: a first and a last day, both counted, paper 02's edition, by which the elements are reckoned, and
-// the conditions; the arcs in the order of the bodies.
+// The bodies of which a true longitude may be asked for.
+pub enum TrueBody {
+    Sun,
+    Moon,
+    Mars,
+    Mercury,
+    Jupiter,
+    Venus,
+    Saturn,
+}
+
+pub const TRUE_BODIES: usize = 7;
+
+pub const TRUE_ORDER: [TrueBody; TRUE_BODIES] = [
+    TrueBody::Sun,
+    TrueBody::Moon,
+    TrueBody::Mars,
+    TrueBody::Mercury,
+    TrueBody::Jupiter,
+    TrueBody::Venus,
+    TrueBody::Saturn,
+];
+
+// Paper 01's reading: a first and a last day, both counted, paper 02's edition, by which the elements and the true Moon
+// are reckoned, and the conditions; the arcs of mean longitudes in the order of the bodies, those of true longitudes in
+// `TRUE_ORDER`.
 pub struct Query {
     pub first: u32,
     pub last: u32,
@@ -55,34 +98,72 @@ pub struct Query {
     pub tithi: Asked,
     pub nakshatra: Asked,
     pub yoga: Asked,
+    pub karana: Asked,
     pub arcs: [BodyArcs; 9],
+    pub true_arcs: [BodyArcs; TRUE_BODIES],
+}
+
+// A number's place in a set of numbers.
+fn place_of(number: u32) -> u32
+    ensures { λ r. ⌜ r ≡ min number 31 ⌝ }
+{
+    if number < SHARED_BIT {
+        number
+    } else {
+        SHARED_BIT
+    }
 }
 
 impl Asked {
     pub const NONE: Asked = Asked {
         given: false,
-        value: 0,
+        set: 0,
     };
 
-    fn in_range(self, largest: u32) -> bool
-        ensures { λ r. ⌜ r ≡ askedInRange self largest ⌝ }
+    // A set that is given has a number, all of them below a bit and at or above another.
+    fn in_range(self, least: u32, past: u32) -> bool
+        requires { ⌜ 1 ≤ least ⌝ }
+        ensures { λ r. ⌜ r ≡ numbersInRange self least past ⌝ }
     {
         if self.given {
-            self.value <= largest
-        } else {
-            true
+            if 0 < self.set {
+                if self.set < past {
+                    return self.set % least == 0;
+                }
+            }
+            return false;
         }
+        true
+    }
+
+    // Whether the set has a number.
+    pub fn has(self, number: u32) -> bool
+        ensures { λ r. ⌜ r ≡ hasNumber (self .set) number ⌝ }
+    {
+        let place = place_of(number);
+        (self.set >> place) % 2 == 1
+    }
+
+    // The same with one number more.
+    pub fn with(self, number: u32) -> Asked
+        ensures { λ r. ⌜ r ≡ withNumber self number ⌝ }
+    {
+        if self.has(number) {
+            return Asked {
+                given: true,
+                set: self.set,
+            };
+        }
+        let bit = 1 << place_of(number);
+        let set = self.set + bit;
+        Asked { given: true, set }
     }
 
     // Whether a value will do: any where none is asked for.
     pub fn admits(self, value: u32) -> bool
         ensures { λ r. ⌜ r ≡ meets self value ⌝ }
     {
-        if self.given {
-            value == self.value
-        } else {
-            true
-        }
+        if self.given { self.has(value) } else { true }
     }
 }
 
@@ -163,10 +244,31 @@ impl Arc {
         ensures { λ r. ⌜ r ≡ (self .given && inArc self longitude) ⌝ }
     {
         if self.given {
-            let past = longitudes::difference(longitude, self.start);
+            let past = panchanga::difference_on_circle(longitude, self.start);
             past < self.width
         } else {
             false
+        }
+    }
+}
+
+impl Arc {
+    // Wider by the Sun's largest equation on both sides; the whole circle where that is no less.
+    fn wider(self) -> Arc
+        ensures { λ r. ⌜ r ≡ widerArc self ⌝ }
+    {
+        let start = longitudes::difference(self.start, LARGEST_EQUATION);
+        if self.width < CIRCLE - 2 * LARGEST_EQUATION {
+            return Arc {
+                given: self.given,
+                start,
+                width: self.width + 2 * LARGEST_EQUATION,
+            };
+        }
+        Arc {
+            given: self.given,
+            start,
+            width: CIRCLE,
         }
     }
 }
@@ -209,15 +311,26 @@ impl BodyArcs {
         }
     }
 
+    fn wider(self) -> BodyArcs
+        ensures { λ r. ⌜ r ≡ widerArcs self ⌝ }
+    {
+        let first = self.first;
+        let second = self.second;
+        let first = first.wider();
+        let second = second.wider();
+        BodyArcs { first, second }
+    }
+
     // Whether one that is given has a longitude.
     pub fn have(self, longitude: u32) -> bool
         ensures { λ r. ⌜ r ≡ inSome (givenArcs self) longitude ⌝ }
     {
         let first = self.first;
         let second = self.second;
-        let in_first = first.has(longitude);
-        let in_second = second.has(longitude);
-        if in_first { in_first } else { in_second }
+        if first.has(longitude) {
+            return true;
+        }
+        second.has(longitude)
     }
 }
 
@@ -235,6 +348,39 @@ fn arcs_in_range(arcs: [BodyArcs; 9]) -> bool
     true
 }
 
+fn true_arcs_in_range(arcs: [BodyArcs; TRUE_BODIES]) -> bool
+    ensures { λ r. ⌜ r ≡ trueArcsInRange arcs ⌝ }
+{
+    let mut place = 0;
+    while place < TRUE_BODIES {
+        let of_body = arcs[place];
+        if !of_body.in_range() {
+            return false;
+        }
+        place += 1;
+    }
+    true
+}
+
+fn elements_in_range(query: Query) -> bool
+    ensures { λ r. ⌜ r ≡ elementsInRange query ⌝ }
+{
+    let tithi = query.tithi;
+    if !tithi.in_range(1, TITHIS) {
+        return false;
+    }
+    let nakshatra = query.nakshatra;
+    if !nakshatra.in_range(1, NAKSHATRAS) {
+        return false;
+    }
+    let yoga = query.yoga;
+    if !yoga.in_range(1, NAKSHATRAS) {
+        return false;
+    }
+    let karana = query.karana;
+    karana.in_range(2, KARANAS)
+}
+
 fn conditions_in_range(query: Query) -> bool
     ensures { λ r. ⌜ r ≡ conditionsInRange query ⌝ }
 {
@@ -242,20 +388,15 @@ fn conditions_in_range(query: Query) -> bool
     if !weekdays.in_range() {
         return false;
     }
-    let tithi = query.tithi;
-    if !tithi.in_range(29) {
-        return false;
-    }
-    let nakshatra = query.nakshatra;
-    if !nakshatra.in_range(26) {
-        return false;
-    }
-    let yoga = query.yoga;
-    if !yoga.in_range(26) {
+    if !elements_in_range(query) {
         return false;
     }
     let arcs = query.arcs;
-    arcs_in_range(arcs)
+    if !arcs_in_range(arcs) {
+        return false;
+    }
+    let true_arcs = query.true_arcs;
+    true_arcs_in_range(true_arcs)
 }
 
 impl Query {
@@ -275,6 +416,27 @@ impl Query {
         } else {
             refusal::BAD_CONDITION
         }
+    }
+
+    // The query that finds the same days faster. The scan goes by the mean Sun: where the true Sun is asked for and the
+    // mean one is not, the mean Sun is asked for too, in the arcs made wider, which it cannot leave on a day that has
+    // the true Sun in its own.
+    pub fn with_sun_arcs(self) -> Query
+        ensures { λ r. ⌜ r ≡ withSunArcs self ⌝ }
+    {
+        let mut query = self;
+        let sun = query.arcs[0];
+        let true_sun = query.true_arcs[0];
+        if sun.given() {
+            return query;
+        }
+        if !true_sun.given() {
+            return query;
+        }
+        let mut arcs = query.arcs;
+        arcs[0] = true_sun.wider();
+        query.arcs = arcs;
+        query
     }
 }
 
@@ -320,10 +482,17 @@ fn other_arcs_met(arcs: [BodyArcs; 9], day: Day) -> bool
 }
 
 // Whether a day has the elements asked for. True longitudes take long to reckon: this is done only where an element is
-// asked for, the Sun's only for a tithi or a yoga. A pair that is no day has none, nor has any day in what is no
-// edition.
-pub fn elements_met(edition: u32, tithi: Asked, nakshatra: Asked, yoga: Asked, day: Day) -> bool
-    ensures { λ r. ⌜ r ≡ (isEdition edition && (inRange day && elementsMet edition tithi nakshatra yoga day)) ⌝ }
+// asked for, the Sun's only for one that hangs on both lights. A pair that is no day has none, nor has any day in what
+// is no edition.
+pub fn elements_met(
+    edition: u32,
+    tithi: Asked,
+    nakshatra: Asked,
+    yoga: Asked,
+    karana: Asked,
+    day: Day,
+) -> bool
+    ensures { λ r. ⌜ r ≡ (isEdition edition && (inRange day && elementsMet edition tithi nakshatra yoga karana day)) ⌝ }
 {
     if !panchanga::is_edition(edition) {
         return false;
@@ -333,17 +502,22 @@ pub fn elements_met(edition: u32, tithi: Asked, nakshatra: Asked, yoga: Asked, d
     }
     if !tithi.given {
         if !yoga.given {
-            return nakshatra_met(nakshatra, edition, day);
+            if !karana.given {
+                return nakshatra_met(nakshatra, edition, day);
+            }
         }
     }
-    let found = panchanga::of_day(edition, day);
-    if !tithi.admits(found.tithi) {
+    let found = panchanga::true_lights(edition, day);
+    if !tithi.admits(panchanga::tithi_of(found.sun, found.moon)) {
         return false;
     }
-    if !nakshatra.admits(found.nakshatra) {
+    if !nakshatra.admits(panchanga::nakshatra_of(found.moon)) {
         return false;
     }
-    yoga.admits(found.yoga)
+    if !yoga.admits(panchanga::yoga_of(found.sun, found.moon)) {
+        return false;
+    }
+    karana.admits(panchanga::karana_of(found.sun, found.moon))
 }
 
 fn nakshatra_met(asked: Asked, edition: u32, day: Day) -> bool
@@ -352,14 +526,80 @@ fn nakshatra_met(asked: Asked, edition: u32, day: Day) -> bool
 {
     if asked.given {
         let found = panchanga::nakshatra(edition, day);
-        found.number == asked.value
+        asked.has(found.number)
     } else {
         true
     }
 }
 
-// Whether a day meets all conditions beside the Sun's arcs and the weekdays: the other bodies' arcs, then the elements.
-// A pair that is no day meets none, nor does any day those of a query without an edition.
+fn true_on(edition: u32, body: TrueBody, day: Day) -> u32
+    requires { ⌜ (inRange day ≡ true) × (isEdition edition ≡ true) ⌝ }
+    ensures { λ r. ⌜ r ≡ trueLongitudeAt edition (trueNumber body) day ⌝ }
+{
+    match body {
+        TrueBody::Sun => panchanga::true_sun(day).number,
+        TrueBody::Moon => panchanga::true_moon(edition, day).number,
+        TrueBody::Mars => planets::true_longitude(Planet::Mars, day).number,
+        TrueBody::Mercury => planets::true_longitude(Planet::Mercury, day).number,
+        TrueBody::Jupiter => planets::true_longitude(Planet::Jupiter, day).number,
+        TrueBody::Venus => planets::true_longitude(Planet::Venus, day).number,
+        TrueBody::Saturn => planets::true_longitude(Planet::Saturn, day).number,
+    }
+}
+
+// A true longitude on a day, the Moon's in an edition.
+pub fn true_longitude(edition: u32, body: TrueBody, day: Day) -> NumberAnswer
+    ensures { λ r. ⌜ r ≡ trueLongitudeOf edition body day ⌝ }
+{
+    let known = panchanga::is_edition(edition);
+    if !known {
+        return NumberAnswer::refused(refusal::BAD_EDITION);
+    }
+    let there = day.in_range();
+    if !there {
+        return NumberAnswer::OUT_OF_RANGE;
+    }
+    NumberAnswer::accepted(true_on(edition, body, day))
+}
+
+// Whether a body's true longitude will do, which is reckoned only where an arc is given. A pair that is no day has
+// none, nor has any day in what is no edition.
+pub fn true_arcs_have(edition: u32, body: TrueBody, arcs: BodyArcs, day: Day) -> bool
+    ensures { λ r. ⌜ r ≡ (isEdition edition && (inRange day && inArcs arcs (trueLongitudeAt edition (trueNumber body) day))) ⌝ }
+{
+    let known = panchanga::is_edition(edition);
+    if !known {
+        return false;
+    }
+    let there = day.in_range();
+    if !there {
+        return false;
+    }
+    if arcs.given() {
+        let found = true_on(edition, body, day);
+        arcs.have(found)
+    } else {
+        true
+    }
+}
+
+fn true_arcs_met(edition: u32, arcs: [BodyArcs; TRUE_BODIES], day: Day) -> bool
+    requires { ⌜ (inRange day ≡ true) × (isEdition edition ≡ true) ⌝ }
+    ensures { λ r. ⌜ r ≡ trueArcsMet edition arcs day ⌝ }
+{
+    let mut place = 0;
+    while place < TRUE_BODIES {
+        let of_body = arcs[place];
+        if !true_arcs_have(edition, TRUE_ORDER[place], of_body, day) {
+            return false;
+        }
+        place += 1;
+    }
+    true
+}
+
+// Whether a day meets all conditions beside the Sun's arcs and the weekdays: the other bodies' arcs, then the elements,
+// then the true longitudes. A pair that is no day meets none, nor does any day those of a query without an edition.
 pub fn others_met(query: Query, pair: Day) -> bool
     ensures { λ r. ⌜ r ≡ othersMet query pair ⌝ }
 {
@@ -370,11 +610,17 @@ pub fn others_met(query: Query, pair: Day) -> bool
     if !other_arcs_met(arcs, pair) {
         return false;
     }
-    elements_met(
+    let elements = elements_met(
         query.edition,
         query.tithi,
         query.nakshatra,
         query.yoga,
+        query.karana,
         pair,
-    )
+    );
+    if !elements {
+        return false;
+    }
+    let true_arcs = query.true_arcs;
+    true_arcs_met(query.edition, true_arcs, pair)
 }

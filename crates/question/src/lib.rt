@@ -6,6 +6,7 @@ use page::PageRead;
 use query::Asked;
 use query::BodyArcs;
 use query::Query;
+use query::TRUE_BODIES;
 use query::Weekdays;
 use words::after;
 use words::after_word;
@@ -103,7 +104,9 @@ fn refused(refusal: u32, reason: u32, line: usize) -> Question
             tithi: Asked::NONE,
             nakshatra: Asked::NONE,
             yoga: Asked::NONE,
+            karana: Asked::NONE,
             arcs: [BodyArcs::NONE; 9],
+            true_arcs: [BodyArcs::NONE; TRUE_BODIES],
         },
     }
 }

@@ -1,27 +1,28 @@
--- The laws of the reason: the condition that is named does not hold, all before it in the order do, and a day fits if
--- and only if the search lists it. By induction on the conditions, and since all of them together are what makes a day
--- match.
+-- The laws of the reason: the condition that is named does not hold, all before it in the order do, a day fits if and
+-- only if the search lists it, and a query without the later conditions is explained as before. By induction on the
+-- conditions, and since all of them together are what makes a day match.
 -- Assumes nothing.
 use Prim.Native.Nat.{ℕ, _≤_}
 use mathlib.Core.Path.{_≡_, refl, sym, ap, _∙_}
-use mathlib.Core.Bool.{Bool, true, false, cond, _&&_, and-true, and-false, and-eq-true-iff, false≢true}
+use mathlib.Core.Bool.{Bool, true, false, cond, _&&_, and-true, and-false, and-assoc, and-eq-true-iff, false≢true}
 use mathlib.Core.List.{List, [], _∷_, _++_}
 use mathlib.Core.Logic.{_⊎_, inl, inr}
 use native.Mathlib.Omega.{arith}
 use lib.Dec.{leb, eqb}
+use lib.ListN.{replicate}
 use borrow.Author.Tests.{eqb-true, eq-eqb, leb-true, le-leb}
 use Rattle.days.specs.Days.{lastDay, pairAt, weekdayOn}
 use Rattle.panchanga.specs.TrueLongitudes.{isEdition}
-use Rattle.panchanga.specs.OnDays.{tithiAt, nakshatraAt, yogaAt}
+use Rattle.panchanga.specs.OnDays.{tithiAt, nakshatraAt, yogaAt, karanaAt}
 use Rattle.query.specs.declared.Query.{Query}
-use Rattle.query.specs.Conditions.{meets, weekdayMet, eachBody, bodyMet, arcsMet, elementsMet}
+use Rattle.query.specs.Conditions.{notAsked, noArcs, meets, weekdayMet, inArcs, eachBody, bodyMet, arcsMet, elementsMet, eachPlace, placeMet, trueArcsMet}
 use Rattle.query.specs.Query.{conditionsMet, matches, refusalOf}
 use Rattle.query.proofs.Accepted.{accepted-by}
 use Rattle.search.specs.Look.{nextDay, notExamined, examinedOf}
 use Rattle.search.specs.Days.{matchingDays}
 use Rattle.entries.proofs.Lists.{Has}
 use Rattle.search.proofs.Laws.{listed-only, listed-all, listed-matches, matches-listed}
-use Rattle.reasons.specs.Conditions.{Cause, noCause, Condition, arcConditions, conditionsOn, firstUnmet}
+use Rattle.reasons.specs.Conditions.{bound, anyOf, Cause, noCause, Condition, oneCondition, elementAsked, arcsAsked, row, trueConditions, conditionsOn, firstUnmet}
 use Rattle.reasons.specs.Reasons.{Numbers, noAnswer, refusalOn, whyOf}
 use Rattle.reasons.proofs.Accepted.{accepted-question}
 
@@ -70,23 +71,29 @@ none-unmet (c ∷ cs) h = go (c .holds) h (λ k. none-unmet cs k)
     go true k deeper = deeper k
     go false k deeper = absurd (false≢true k)
 
--- where nothing does, all hold, since each condition has a number, from 1 to 15: one test over them all
+-- conditions that all hold add nothing behind others
+unmet-in-front : (cs others : List Condition) → allHold others ≡ true → firstUnmet (cs ++ others) ≡ firstUnmet cs
+unfolding firstUnmet
+unmet-in-front [] others h = none-unmet others h
+unmet-in-front (c ∷ cs) others h = ap (λ (x : Cause). cond (c .holds) x (c .cause)) (unmet-in-front cs others h)
+
+-- where nothing does, all hold, since each condition has a number, from 1 to 23: one test over them all
 allNumbered : List Condition → Bool
 allNumbered [] = true
-allNumbered (c ∷ cs) = (leb 1 (c .cause .condition) && leb (c .cause .condition) 15) && allNumbered cs
+allNumbered (c ∷ cs) = (leb 1 (c .cause .condition) && leb (c .cause .condition) 23) && allNumbered cs
 
 record Numbered (c : Condition) (cs : List Condition) : Type 0 where
   low : 1 ≤ c .cause .condition
-  high : c .cause .condition ≤ 15
+  high : c .cause .condition ≤ 23
   others : allNumbered cs ≡ true
 
 each-numbered : (c : Condition) (cs : List Condition) → allNumbered (c ∷ cs) ≡ true → Numbered c cs
 unfolding allNumbered
 each-numbered c cs e =
     let k = c .cause .condition in
-    let both = and-eq-true-iff (leb 1 k && leb k 15) (allNumbered cs) .0 e in
-    let ends = and-eq-true-iff (leb 1 k) (leb k 15) .0 (both .0) in
-    record { low = leb-true 1 k (ends .0); high = leb-true k 15 (ends .1); others = both .1 }
+    let both = and-eq-true-iff (leb 1 k && leb k 23) (allNumbered cs) .0 e in
+    let ends = and-eq-true-iff (leb 1 k) (leb k 23) .0 (both .0) in
+    record { low = leb-true 1 k (ends .0); high = leb-true k 23 (ends .1); others = both .1 }
 
 all-met : (cs : List Condition) → allNumbered cs ≡ true → firstUnmet cs .condition ≡ 0 → allHold cs ≡ true
 unfolding allHold firstUnmet
@@ -97,35 +104,64 @@ all-met (c ∷ cs) k h = let known = each-numbered c cs k in go (c .holds) (know
     go true l e deeper = deeper e
     go false l e deeper = absurd (omega arith)
 
-small : (cs : List Condition) → allNumbered cs ≡ true → firstUnmet cs .condition ≤ 15
+small : (cs : List Condition) → allNumbered cs ≡ true → firstUnmet cs .condition ≤ 23
 unfolding firstUnmet
 small [] k = omega arith
 small (c ∷ cs) k = let known = each-numbered c cs k in go (c .holds) (known .high) (small cs (known .others))
   where
-    go : (b : Bool) → c .cause .condition ≤ 15 → firstUnmet cs .condition ≤ 15 → cond b (firstUnmet cs) (c .cause) .condition ≤ 15
+    go : (b : Bool) → c .cause .condition ≤ 23 → firstUnmet cs .condition ≤ 23 → cond b (firstUnmet cs) (c .cause) .condition ≤ 23
     go true l h = h
     go false l h = l
 
 module _ (q : Query) (n : ℕ) where
   numbered : allNumbered (conditionsOn q n) ≡ true
-  unfolding allNumbered conditionsOn arcConditions
+  unfolding allNumbered conditionsOn row
   numbered = refl
 
   -- all conditions together, in whatever order, are what makes a day match
   all-together : allHold (conditionsOn q n) ≡ matches q n
-  unfolding allHold conditionsOn arcConditions matches conditionsMet arcsMet elementsMet
+  unfolding allHold conditionsOn row matches conditionsMet arcsMet elementsMet trueArcsMet
   all-together =
-      rw (and-true (bodyMet (q .arcs) (pairAt n) 8))
-      (reordered (leb (q .first) n) (leb n (q .last)) (weekdayMet (q .weekdays) (weekdayOn n)) (meets (q .tithi) (tithiAt (q .edition) (pairAt n))) (meets (q .nakshatra) (nakshatraAt (q .edition) (pairAt n))) (meets (q .yoga) (yogaAt (q .edition) (pairAt n))) (eachBody (bodyMet (q .arcs) (pairAt n))))
+      let d = pairAt n in
+      rw (and-true (placeMet (q .edition) (q .«true_arcs») d 6), ← nine (bodyMet (q .arcs) d) (eachPlace (placeMet (q .edition) (q .«true_arcs») d)))
+      (reordered (leb (q .first) n) (leb n (q .last)) (weekdayMet (q .weekdays) (weekdayOn n)) (meets (q .tithi) (tithiAt (q .edition) d)) (meets (q .nakshatra) (nakshatraAt (q .edition) d)) (meets (q .yoga) (yogaAt (q .edition) d)) (meets (q .karana) (karanaAt (q .edition) d)) (eachBody (bodyMet (q .arcs) d)) (eachPlace (placeMet (q .edition) (q .«true_arcs») d)))
     where
-      reordered : (f l w t k y a : Bool) → (f && (l && (w && (t && (k && (y && a)))))) ≡ ((f && l) && (a && (w && (t && (k && y)))))
-      reordered false l w t k y a = refl
-      reordered true false w t k y a = refl
-      reordered true true false t k y a = sym (and-false a)
-      reordered true true true false k y a = sym (and-false a)
-      reordered true true true true false y a = sym (and-false a)
-      reordered true true true true true false a = sym (and-false a)
-      reordered true true true true true true a = sym (and-true a)
+      -- the bodies, and others behind them
+      nine : (b : ℕ → Bool) (others : Bool) → (eachBody b && others) ≡ (b 0 && (b 1 && (b 2 && (b 3 && (b 4 && (b 5 && (b 6 && (b 7 && (b 8 && others)))))))))
+      nine b others = simp and-assoc
+
+      reordered : (f l w t k y r a p : Bool) → (f && (l && (w && (t && (k && (y && (r && (a && p)))))))) ≡ ((f && l) && (a && (w && ((t && (k && (y && r))) && p))))
+      reordered false l w t k y r a p = refl
+      reordered true false w t k y r a p = refl
+      reordered true true false t k y r a p = sym (and-false a)
+      reordered true true true false k y r a p = sym (and-false a)
+      reordered true true true true false y r a p = sym (and-false a)
+      reordered true true true true true false r a p = sym (and-false a)
+      reordered true true true true true true false a p = sym (and-false a)
+      reordered true true true true true true true a p = refl
+
+  -- paper 02's conditions, without those that came later
+  abbrev pub firstConditions : List Condition
+  firstConditions =
+      oneCondition 1 (leb (q .first) n) (bound (q .first)) n
+      ∷ oneCondition 2 (leb n (q .last)) (bound (q .last)) n
+      ∷ oneCondition 3 (weekdayMet (q .weekdays) (weekdayOn n)) (anyOf (q .weekdays .set)) (weekdayOn n)
+      ∷ elementAsked 4 (q .tithi) (tithiAt (q .edition) (pairAt n))
+      ∷ elementAsked 5 (q .nakshatra) (nakshatraAt (q .edition) (pairAt n))
+      ∷ elementAsked 6 (q .yoga) (yogaAt (q .edition) (pairAt n))
+      ∷ row (arcsAsked (q .arcs) (pairAt n)) 0 9
+
+  -- A QUERY WITHOUT THE LATER CONDITIONS is explained by those alone
+  pub explained-as-before : q .karana ≡ notAsked → q .«true_arcs» ≡ replicate 7 noArcs → firstUnmet (conditionsOn q n) ≡ firstUnmet firstConditions
+  unfolding firstUnmet conditionsOn
+  explained-as-before k t =
+      rw (unmet-in-front (row (arcsAsked (q .arcs) (pairAt n)) 0 9) (trueConditions (q .edition) (q .«true_arcs») (pairAt n)) (none-asked t), any k)
+    where
+      any : q .karana ≡ notAsked → meets (q .karana) (karanaAt (q .edition) (pairAt n)) ≡ true
+      any k = unfold meets in rw k
+
+      none-asked : q .«true_arcs» ≡ replicate 7 noArcs → allHold (trueConditions (q .edition) (q .«true_arcs») (pairAt n)) ≡ true
+      none-asked t = unfold allHold row inArcs in rw t
 
   -- an answer that is not refused
   pub answered : whyOf q n .refusal ≡ 0 → refusalOn q n ≡ 0
@@ -144,12 +180,12 @@ module _ (q : Query) (n : ℕ) where
   pub edition-told : whyOf q n .refusal ≡ 0 → isEdition (whyOf q n .edition) ≡ true
   edition-told r = let a = answered r in rw (told a) (accepted-question q n a .edition)
 
-  -- a condition's number is at most 15
-  pub condition-small : whyOf q n .cause .condition ≤ 15
+  -- a condition's number is at most 23
+  pub condition-small : whyOf q n .cause .condition ≤ 23
   unfolding whyOf
   condition-small = go (eqb (refusalOn q n) 0)
     where
-      go : (b : Bool) → cond b (record { refusal = 0; edition = q .edition; cause = firstUnmet (conditionsOn q n) }) (noAnswer (refusalOn q n)) .cause .condition ≤ 15
+      go : (b : Bool) → cond b (record { refusal = 0; edition = q .edition; cause = firstUnmet (conditionsOn q n) }) (noAnswer (refusalOn q n)) .cause .condition ≤ 23
       go true = small (conditionsOn q n) numbered
       go false = omega arith
 

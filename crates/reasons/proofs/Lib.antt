@@ -1,5 +1,5 @@
 mod Testing
-mod Bodies
+mod Rows
 mod Order
 pub mod Accepted
 pub mod Laws

@@ -1,7 +1,6 @@
 -- Why a day is not in a query's list, in the numbers of the papers; and these numbers for every case of the answer.
 -- Assumes nothing.
 use mathlib.Core.Bool.{cond}
-use mathlib.Core.List.{[], _∷_, _++_}
 use Prim.Native.Nat.{ℕ, _+_}
 use lib.Dec.{leb, eqb}
 use Rattle.days.specs.Days.{lastDay}
@@ -12,8 +11,8 @@ use Rattle.query.specs.Query.{refusalOf}
 use Rattle.reasons.specs.declared.Answer.{Answer}
 use Rattle.reasons.specs.declared.Answer.the-variants.{Refused, Told}
 use Rattle.reasons.specs.declared.Reason.{Reason}
-use Rattle.reasons.specs.declared.Reason.the-variants.{Fits, BeforeSpan, AfterSpan, Weekday, Tithi, Nakshatra, Yoga, Arcs}
-use Rattle.reasons.specs.Conditions.{Cause, noCause, arcNumbers, conditionsOn, firstUnmet}
+use Rattle.reasons.specs.declared.Reason.the-variants.{Fits, BeforeSpan, AfterSpan, Weekday, Tithi, Nakshatra, Yoga, Karana, Arcs, TrueArcs}
+use Rattle.reasons.specs.Conditions.{Cause, noCause, bound, anyOf, meanArcs, trueArcs, conditionsOn, firstUnmet}
 
 -- why the question is refused, or 0: the edition's 14 first, then 2 for the day, then as the query is: 2 for an end of
 -- the span, 5 and 6
@@ -39,13 +38,15 @@ whyOf q n =
 -- the numbers of each case of a reason
 unfoldable pub causeOf : Reason → Cause
 causeOf Fits = noCause
-causeOf (BeforeSpan first day) = record { condition = 1; asked = first ∷ []; found = day }
-causeOf (AfterSpan last day) = record { condition = 2; asked = last ∷ []; found = day }
-causeOf (Weekday asked found) = record { condition = 3; asked = asked ∷ []; found = found }
-causeOf (Tithi asked found) = record { condition = 4; asked = asked ∷ []; found = found }
-causeOf (Nakshatra asked found) = record { condition = 5; asked = asked ∷ []; found = found }
-causeOf (Yoga asked found) = record { condition = 6; asked = asked ∷ []; found = found }
-causeOf (Arcs body asked found) = record { condition = 7 + body; asked = arcNumbers (asked .first) ++ arcNumbers (asked .second); found = found }
+causeOf (BeforeSpan first day) = record { condition = 1; asked = bound first; found = day }
+causeOf (AfterSpan last day) = record { condition = 2; asked = bound last; found = day }
+causeOf (Weekday asked found) = record { condition = 3; asked = anyOf asked; found = found }
+causeOf (Tithi asked found) = record { condition = 4; asked = anyOf asked; found = found }
+causeOf (Nakshatra asked found) = record { condition = 5; asked = anyOf asked; found = found }
+causeOf (Yoga asked found) = record { condition = 6; asked = anyOf asked; found = found }
+causeOf (Karana asked found) = record { condition = 16; asked = anyOf asked; found = found }
+causeOf (Arcs body asked found) = record { condition = 7 + body; asked = meanArcs asked; found = found }
+causeOf (TrueArcs place asked found) = record { condition = 17 + place; asked = trueArcs asked; found = found }
 
 -- and of an answer
 unfoldable pub numbersOf : Answer → Numbers

@@ -5,6 +5,7 @@ use longitudes::Body;
 use query::Asked;
 use query::BodyArcs;
 use query::Query;
+use query::TrueBody;
 use query::Weekdays;
 ghost use mathlib.Core.Path.{_≡_};
 ghost use mathlib.Core.Bool.{true};
@@ -13,15 +14,16 @@ ghost use Rattle.days.specs.Days.{lastDay, inRange, weekdayOn};
 ghost use Rattle.longitudes.specs.Longitudes.{longitudeAt};
 ghost use Rattle.longitudes.specs.Answers.{bodyNumber};
 ghost use Rattle.panchanga.specs.TrueLongitudes.{isEdition};
-ghost use Rattle.panchanga.specs.OnDays.{tithiAt, nakshatraAt, yogaAt};
-ghost use Rattle.query.specs.Conditions.{meets, weekdayMet, inArcs};
-ghost use Rattle.reasons.specs.Conditions.{everyBody, arcConditions, conditionsOn, firstUnmet};
+ghost use Rattle.panchanga.specs.OnDays.{tithiAt, nakshatraAt, yogaAt, karanaAt};
+ghost use Rattle.query.specs.Conditions.{meets, weekdayMet, inArcs, trueLongitudeAt};
+ghost use Rattle.query.specs.TrueBodies.{trueNumber};
+ghost use Rattle.reasons.specs.Conditions.{longitudeConditions, trueConditions, conditionsOn, firstUnmet};
 ghost use Rattle.reasons.specs.Reasons.{refusalOn, whyOf, causeOf, numbersOf};
 ghost use Rattle.reasons.specs.Parts.{TestedFor};
 
 // What shuts a day out, with the value asked and the value found: the end of the span that was passed and the day; the
-// set of weekdays and the day's; the number asked and the day's; a body's arcs, by its number, and its mean longitude.
-// Or the day fits.
+// set of weekdays or of an element's numbers and the day's own; a body's arcs, by its number, and its mean longitude;
+// the arcs of one of the seven true places, by its place among them, and that longitude. Or the day fits.
 pub enum Reason {
     Fits,
     BeforeSpan {
@@ -48,8 +50,17 @@ pub enum Reason {
         asked: u32,
         found: u32,
     },
+    Karana {
+        asked: u32,
+        found: u32,
+    },
     Arcs {
         body: u32,
+        asked: BodyArcs,
+        found: u32,
+    },
+    TrueArcs {
+        place: u32,
         asked: BodyArcs,
         found: u32,
     },
@@ -130,6 +141,17 @@ fn test_yoga(asked: Asked, edition: u32, day: Day) -> Tested
     test_number(asked, found.number)
 }
 
+fn test_karana(asked: Asked, edition: u32, day: Day) -> Tested
+    requires { ⌜ (inRange day ≡ true) × (isEdition edition ≡ true) ⌝ }
+    ensures { λ r. ⌜ TestedFor (meets asked (karanaAt edition day)) (karanaAt edition day) r ⌝ }
+{
+    if !asked.given {
+        return HOLDS;
+    }
+    let found = panchanga::karana(edition, day);
+    test_number(asked, found.number)
+}
+
 fn test_arcs(asked: BodyArcs, body: Body, day: Day) -> Tested
     requires { ⌜ inRange day ≡ true ⌝ }
     ensures { λ r. ⌜ TestedFor (inArcs asked (longitudeAt (bodyNumber body) day)) (longitudeAt (bodyNumber body) day) r ⌝ }
@@ -144,11 +166,48 @@ fn test_arcs(asked: BodyArcs, body: Body, day: Day) -> Tested
     }
 }
 
-// The first body whose arcs are not met.
-fn unmet_arcs(arcs: [BodyArcs; 9], day: Day) -> Reason
-    requires { ⌜ inRange day ≡ true ⌝ }
-    ensures { λ r. ⌜ causeOf r ≡ firstUnmet (arcConditions arcs day everyBody) ⌝ }
+fn test_true_arcs(asked: BodyArcs, edition: u32, body: TrueBody, day: Day) -> Tested
+    requires { ⌜ (inRange day ≡ true) × (isEdition edition ≡ true) ⌝ }
+    ensures { λ r. ⌜ TestedFor (inArcs asked (trueLongitudeAt edition (trueNumber body) day)) (trueLongitudeAt edition (trueNumber body) day) r ⌝ }
 {
+    if !asked.given() {
+        return HOLDS;
+    }
+    let found = query::true_longitude(edition, body, day);
+    Tested {
+        holds: asked.have(found.number),
+        found: found.number,
+    }
+}
+
+// The first true place whose arcs are not met.
+fn unmet_true_arcs(edition: u32, arcs: [BodyArcs; query::TRUE_BODIES], day: Day) -> Reason
+    requires { ⌜ (inRange day ≡ true) × (isEdition edition ≡ true) ⌝ }
+    ensures { λ r. ⌜ causeOf r ≡ firstUnmet (trueConditions edition arcs day) ⌝ }
+{
+    let mut place = 0;
+    while place < query::TRUE_BODIES {
+        let asked = arcs[place];
+        let tested = test_true_arcs(asked, edition, query::TRUE_ORDER[place], day);
+        if !tested.holds {
+            let number = place as u32;
+            return Reason::TrueArcs {
+                place: number,
+                asked,
+                found: tested.found,
+            };
+        }
+        place += 1;
+    }
+    Reason::Fits
+}
+
+// The first body whose arcs are not met; behind them the true places.
+fn unmet_arcs(query: Query, day: Day) -> Reason
+    requires { ⌜ (inRange day ≡ true) × (isEdition (query .edition) ≡ true) ⌝ }
+    ensures { λ r. ⌜ causeOf r ≡ firstUnmet (longitudeConditions query day) ⌝ }
+{
+    let arcs = query.arcs;
     let mut body = 0;
     while body < longitudes::BODIES {
         let asked = arcs[body];
@@ -163,11 +222,12 @@ fn unmet_arcs(arcs: [BodyArcs; 9], day: Day) -> Reason
         }
         body += 1;
     }
-    Reason::Fits
+    let true_arcs = query.true_arcs;
+    unmet_true_arcs(query.edition, true_arcs, day)
 }
 
-// The first condition that a day does not meet, in paper 02's order. Each is tested only where those before it hold, so
-// nothing is reckoned behind it.
+// The first condition that a day does not meet, in the order of `conditionsOn`. Each is tested only where those before
+// it hold, so nothing is reckoned behind it.
 fn first_unmet(query: Query, day: u32) -> Reason
     requires { ⌜ (day ≤ lastDay) × (isEdition (query .edition) ≡ true) ⌝ }
     ensures { λ r. ⌜ causeOf r ≡ firstUnmet (conditionsOn query day) ⌝ }
@@ -195,26 +255,32 @@ fn first_unmet(query: Query, day: u32) -> Reason
     let tithi = test_tithi(query.tithi, query.edition, pair);
     if !tithi.holds {
         return Reason::Tithi {
-            asked: query.tithi.value,
+            asked: query.tithi.set,
             found: tithi.found,
         };
     }
     let nakshatra = test_nakshatra(query.nakshatra, query.edition, pair);
     if !nakshatra.holds {
         return Reason::Nakshatra {
-            asked: query.nakshatra.value,
+            asked: query.nakshatra.set,
             found: nakshatra.found,
         };
     }
     let yoga = test_yoga(query.yoga, query.edition, pair);
     if !yoga.holds {
         return Reason::Yoga {
-            asked: query.yoga.value,
+            asked: query.yoga.set,
             found: yoga.found,
         };
     }
-    let arcs = query.arcs;
-    unmet_arcs(arcs, pair)
+    let karana = test_karana(query.karana, query.edition, pair);
+    if !karana.holds {
+        return Reason::Karana {
+            asked: query.karana.set,
+            found: karana.found,
+        };
+    }
+    unmet_arcs(query, pair)
 }
 
 // The refusal of the question, or 0: the edition's, then the day's, then what else the query is refused for, as of a

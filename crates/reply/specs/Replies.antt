@@ -1,6 +1,6 @@
 -- From the bytes of the input to the bytes that are printed, and to those that are said on standard error.
 -- Assumes nothing.
-use mathlib.Core.Bool.{cond}
+use mathlib.Core.Bool.{cond, _&&_}
 use mathlib.Core.List.{List, []}
 use Prim.Native.Nat.{ℕ}
 use lib.Dec.{ltb, eqb}
@@ -10,8 +10,10 @@ use Rattle.explanation.specs.Explanations.{explanationOf}
 use Rattle.messages.specs.Messages.{faultLine, unreadablePage}
 use Rattle.question.specs.declared.Question.{Question}
 use Rattle.question.specs.Questions.{questionRead}
+use Rattle.remarks.specs.Remarks.{remarksOf}
 use Rattle.text.specs.Inputs.{tooLong}
-use Rattle.text.specs.Lines.{Holds, refusalLine}
+use Rattle.text.specs.Lines.{newline, Holds, refusalLine}
+use Rattle.words.specs.Words.{afterFirst}
 use Rattle.reply.specs.declared.Reply.{Reply}
 
 -- for what was read: the line that says why, or the refusal; and with a refusal which line is at fault
@@ -33,3 +35,8 @@ saidFor input = cond (ltb (length input) tooLong) (saidOf (questionRead input)) 
 pub record Replied (printed said : List ℕ) (reply : Reply) : Type 0 where
   pub on-output : Holds (reply .printed) printed
   pub on-error : Holds (reply .said) said
+
+-- all that is said of how an accepted page was understood, whose first line is the input's second
+unfoldable pub remarksFor : List ℕ → List ℕ
+remarksFor input =
+    cond (ltb (length input) tooLong && eqb (questionRead input .refusal) accepted) (remarksOf 2 (afterFirst newline input)) []

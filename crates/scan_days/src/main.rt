@@ -30,7 +30,9 @@ fn worked() -> Query {
         tithi: Asked::NONE,
         nakshatra: Asked::NONE,
         yoga: Asked::NONE,
+        karana: Asked::NONE,
         arcs,
+        true_arcs: [BodyArcs::NONE; query::TRUE_BODIES],
     }
 }
 

@@ -123,7 +123,9 @@ inEdition edition q =
       tithi = q .tithi;
       nakshatra = q .nakshatra;
       yoga = q .yoga;
+      karana = q .karana;
       arcs = q .arcs;
+      «true_arcs» = q .«true_arcs»;
     }
 
 -- THE SCAN IS THE SAME IN BOTH EDITIONS: it goes by the mean Sun, which no edition changes

@@ -10,3 +10,4 @@ pub mod Laws
 pub mod Spans
 pub mod PaperQuery
 pub mod Single
+pub mod SunArcs

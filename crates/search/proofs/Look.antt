@@ -1,7 +1,7 @@
 -- What the look says of a day, by the outcomes of its tests: refused, the Sun outside its arcs, inside one, a day
 -- outside the span.
 -- Assumes nothing.
-use mathlib.Core.Path.{_≡_, refl, ap, sym, _∙_}
+use mathlib.Core.Path.{_≡_, ap, sym, _∙_}
 use mathlib.Core.Bool.{Bool, true, false, cond, not, _&&_, false≢true}
 use Prim.Native.Nat.{ℕ, _+_, _-_, _/_, _≤_, _<_}
 use native.Mathlib.Omega.{arith}
@@ -13,17 +13,20 @@ use Rattle.days.proofs.Laws.{pair-in-range}
 use Rattle.panchanga.specs.TrueLongitudes.{isEdition}
 use Rattle.query.specs.declared.Query.{Query}
 use Rattle.query.specs.Query.{sunArcs, conditionsMet, inSpan, matches, refusalOf}
-use Rattle.query.specs.Conditions.{weekdayMet, arcsGiven, queryElementsMet}
+use Rattle.query.specs.declared.BodyArcs.{BodyArcs}
+use Rattle.query.specs.declared.TrueBody.{TrueBody}
+use Rattle.query.specs.Conditions.{weekdayMet, arcsGiven, inArcs, queryElementsMet, trueLongitudeAt}
+use Rattle.query.specs.TrueBodies.{trueNumber}
 use Rattle.query.specs.Parts.{othersMet}
 use Rattle.query.proofs.Accepted.{accepted-by, edition-refused, edition-accepted}
 use Rattle.query.proofs.Conditions.{weekday-not-met, others-decide}
 use Rattle.search.specs.declared.Approach.{Approach}
 use Rattle.search.specs.declared.Examined.{Examined}
 use Rattle.search.specs.declared.More.{More}
-use Rattle.search.specs.declared.More.the-variants.{Nothing, Elements}
+use Rattle.search.specs.declared.More.the-variants.{Nothing, Elements, TrueArcs}
 use Rattle.search.specs.Look.{sunAdvance, sunOn, sunInArcs, nextDay, notExamined, examinedOf}
-use Rattle.search.specs.Parts.{Approached, moreAsked}
-use Rattle.search.proofs.Others.{only-elements, elements-decide, no-more}
+use Rattle.search.specs.Parts.{Approached, Asks}
+use Rattle.search.proofs.Others.{elements-decide, place-decides, no-more}
 use Rattle.search.proofs.Arc.{given-decides, next-in, next-out}
 use Rattle.search.proofs.Skip.{outside-unmatched}
 
@@ -78,12 +81,20 @@ module _ (q : Query) (n : ℕ) where
         inside d others i
         (others-decide q n (accepted-by q (i .accepts) .edition) (i .low) (unfold sunInArcs in i .sun) (sym tested ∙ not-false weekday t) ∙ ap (othersMet q) (sym (i .pair)) ∙ e)
 
-    pub by-no-more : (more : More) → not weekday ≡ false → more ≡ moreAsked q → more ≡ Nothing → said true (n + 1) ≡ examinedOf q n
-    by-no-more more t e f = by-others true t (no-more q d (accepted-by q (i .accepts) .edition) (sym e ∙ f) (rw (i .pair) (pair-in-range n (i .low))))
+    -- by what is said to be asked
+    module _ (more : More) (t : not weekday ≡ false) (asks : Asks q more) where
+      pub by-no-more : more ≡ Nothing → said true (n + 1) ≡ examinedOf q n
+      by-no-more e = by-others true t (no-more q d (accepted-by q (i .accepts) .edition) (rw (i .pair) (pair-in-range n (i .low))) (rw e at asks))
 
-    -- with no arc of another body, the elements
-    pub by-elements : (more : More) (found : Bool) → not weekday ≡ false → more ≡ moreAsked q → more ≡ Elements → found ≡ (isEdition (q .edition) && (inRange d && queryElementsMet q d)) → said found (n + 1) ≡ examinedOf q n
-    by-elements more found t e f g = by-others found t (sym (g ∙ elements-decide q d (only-elements q (sym e ∙ f))))
+      pub by-elements : (found : Bool) → more ≡ Elements → found ≡ (isEdition (q .edition) && (inRange d && queryElementsMet q d)) → said found (n + 1) ≡ examinedOf q n
+      by-elements found e g = by-others found t (sym (g ∙ elements-decide q d (rw e at asks)))
+
+      pub by-place :
+          (body : TrueBody) (arcs : BodyArcs) (found : Bool) →
+          more ≡ TrueArcs body arcs →
+          found ≡ (isEdition (q .edition) && (inRange d && inArcs arcs (trueLongitudeAt (q .edition) (trueNumber body) d))) →
+          said found (n + 1) ≡ examinedOf q n
+      by-place body arcs found e g = by-others found t (sym (g ∙ place-decides q d body arcs (rw e at asks)))
 
     pub by-more : (others : Bool) → not weekday ≡ false → others ≡ othersMet q d → said others (n + 1) ≡ examinedOf q n
     by-more others t e = by-others others t (sym e)

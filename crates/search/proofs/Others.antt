@@ -2,22 +2,26 @@
 -- to be met.
 -- Assumes nothing.
 use mathlib.Core.Path.{_≡_, refl, sym, ap, _∙_}
-use mathlib.Core.Bool.{Bool, true, false, cond, not, _&&_, _||_, true≢false}
+use mathlib.Core.Bool.{Bool, true, false, not, _&&_, _||_, and-true, true≢false}
 use mathlib.Core.List.{List}
-use Prim.Native.Nat.{ℕ, _<_}
+use Prim.Native.Nat.{ℕ, zero, suc, _+_, _≤_, _<_}
+use native.Mathlib.Decide.{decLe}
 use native.Mathlib.Omega.{arith}
 use lib.Dec.{lit<}
+use borrow.Author.Count.{below-more}
 use Rattle.days.specs.declared.Day.{Day}
 use Rattle.days.specs.Days.{inRange}
 use Rattle.panchanga.specs.TrueLongitudes.{isEdition}
 use Rattle.query.specs.declared.BodyArcs.{BodyArcs}
 use Rattle.query.specs.declared.Query.{Query}
-use Rattle.query.specs.Conditions.{meets, arcsAt, arcsGiven, inArcs, elementsMet, queryElementsMet}
+use Rattle.query.specs.declared.TrueBody.{TrueBody}
+use Rattle.query.specs.Conditions.{meets, arcsAt, arcsGiven, inArcs, elementsMet, queryElementsMet, trueLongitudeAt, eachPlace, placeMet, trueArcsMet}
 use Rattle.query.specs.Parts.{otherArcsMet, othersMet}
-use Rattle.query.proofs.Conditions.{other-false}
-use Rattle.search.specs.declared.More.{More}
-use Rattle.search.specs.declared.More.the-variants.{Nothing, Elements, Arcs}
-use Rattle.search.specs.Parts.{someOther, otherArcsGiven, elementsGiven, moreAsked}
+use Rattle.query.specs.TrueBodies.{trueNumber}
+use Rattle.query.proofs.Conditions.{other-false, places-met}
+use Rattle.query.proofs.TrueBodies.{number-low}
+use Rattle.search.specs.declared.More.the-variants.{Nothing, Elements, TrueArcs}
+use Rattle.search.specs.Parts.{someOther, otherArcsGiven, elementsGiven, NoneBut, GivenPlaces, Asks}
 
 pub neither : (a b : Bool) → (a || b) ≡ false → (a ≡ false) × (b ≡ false)
 neither true b e = absurd (true≢false e)
@@ -45,42 +49,106 @@ module _ (arcs : List BodyArcs) where
   no-arc-given h =
       rw (h 1 (lit< tt) (lit< tt), h 2 (lit< tt) (lit< tt), h 3 (lit< tt) (lit< tt), h 4 (lit< tt) (lit< tt), h 5 (lit< tt) (lit< tt), h 6 (lit< tt) (lit< tt), h 7 (lit< tt) (lit< tt), h 8 (lit< tt) (lit< tt))
 
-abbrev number : More → ℕ
-number Nothing = 0
-number Elements = 1
-number Arcs = 2
+-- a test of the seven places that holds for all but one is that one's
+each-but : (p : ℕ → Bool) (k : ℕ) → k < 7 → ((j : ℕ) → j < 7 → (j ≡ k → ⊥) → p j ≡ true) → eachPlace p ≡ p k
+each-but p zero l h =
+    rw (h 1 (lit< tt) (λ e. omega arith), h 2 (lit< tt) (λ e. omega arith), h 3 (lit< tt) (λ e. omega arith), h 4 (lit< tt) (λ e. omega arith), h 5 (lit< tt) (λ e. omega arith), h 6 (lit< tt) (λ e. omega arith)) (and-true (p 0))
+each-but p (suc zero) l h =
+    rw (h 0 (lit< tt) (λ e. omega arith), h 2 (lit< tt) (λ e. omega arith), h 3 (lit< tt) (λ e. omega arith), h 4 (lit< tt) (λ e. omega arith), h 5 (lit< tt) (λ e. omega arith), h 6 (lit< tt) (λ e. omega arith)) (and-true (p 1))
+each-but p (suc (suc zero)) l h =
+    rw (h 0 (lit< tt) (λ e. omega arith), h 1 (lit< tt) (λ e. omega arith), h 3 (lit< tt) (λ e. omega arith), h 4 (lit< tt) (λ e. omega arith), h 5 (lit< tt) (λ e. omega arith), h 6 (lit< tt) (λ e. omega arith)) (and-true (p 2))
+each-but p (suc (suc (suc zero))) l h =
+    rw (h 0 (lit< tt) (λ e. omega arith), h 1 (lit< tt) (λ e. omega arith), h 2 (lit< tt) (λ e. omega arith), h 4 (lit< tt) (λ e. omega arith), h 5 (lit< tt) (λ e. omega arith), h 6 (lit< tt) (λ e. omega arith)) (and-true (p 3))
+each-but p (suc (suc (suc (suc zero)))) l h =
+    rw (h 0 (lit< tt) (λ e. omega arith), h 1 (lit< tt) (λ e. omega arith), h 2 (lit< tt) (λ e. omega arith), h 3 (lit< tt) (λ e. omega arith), h 5 (lit< tt) (λ e. omega arith), h 6 (lit< tt) (λ e. omega arith)) (and-true (p 4))
+each-but p (suc (suc (suc (suc (suc zero))))) l h =
+    rw (h 0 (lit< tt) (λ e. omega arith), h 1 (lit< tt) (λ e. omega arith), h 2 (lit< tt) (λ e. omega arith), h 3 (lit< tt) (λ e. omega arith), h 4 (lit< tt) (λ e. omega arith), h 6 (lit< tt) (λ e. omega arith)) (and-true (p 5))
+each-but p (suc (suc (suc (suc (suc (suc zero)))))) l h =
+    rw (h 0 (lit< tt) (λ e. omega arith), h 1 (lit< tt) (λ e. omega arith), h 2 (lit< tt) (λ e. omega arith), h 3 (lit< tt) (λ e. omega arith), h 4 (lit< tt) (λ e. omega arith), h 5 (lit< tt) (λ e. omega arith))
+each-but p (suc (suc (suc (suc (suc (suc (suc n))))))) l h = absurd (omega arith)
 
-module _ (q : Query) where
-  pub only-elements : moreAsked q ≡ Elements → otherArcsGiven (q .arcs) ≡ false
-  unfolding moreAsked
-  only-elements e = go (otherArcsGiven (q .arcs)) (elementsGiven q) refl (ap number e)
-    where
-      go : (t u : Bool) → otherArcsGiven (q .arcs) ≡ t → number (cond t Arcs (cond u Elements Nothing)) ≡ 1 → otherArcsGiven (q .arcs) ≡ false
-      go true u a k = absurd (omega arith)
-      go false u a k = a
+-- the places passed of which a true longitude is asked for: how many, and the last of them
+pub record Counting (arcs : List BodyArcs) (count last place : ℕ) : Type 0 where
+  pub bound : place ≤ 7
+  pub few : count ≤ place
+  pub none : count ≡ 0 → (k : ℕ) → k < place → arcsGiven (arcsAt arcs k) ≡ false
+  pub one : count ≡ 1 → (last < place) × ((k : ℕ) → k < place → (k ≡ last → ⊥) → arcsGiven (arcsAt arcs k) ≡ false)
 
-  nothing-more : moreAsked q ≡ Nothing → (otherArcsGiven (q .arcs) ≡ false) × (elementsGiven q ≡ false)
-  unfolding moreAsked
-  nothing-more e = go (otherArcsGiven (q .arcs)) (elementsGiven q) refl refl (ap number e)
-    where
-      go : (t u : Bool) → otherArcsGiven (q .arcs) ≡ t → elementsGiven q ≡ u → number (cond t Arcs (cond u Elements Nothing)) ≡ 0 → (otherArcsGiven (q .arcs) ≡ false) × (elementsGiven q ≡ false)
-      go true u a b k = absurd (omega arith)
-      go false true a b k = absurd (omega arith)
-      go false false a b k = (a, b)
+module _ (arcs : List BodyArcs) where
+  pub counting-start : Counting arcs 0 0 0
+  counting-start = record { bound = omega arith; few = omega arith; none = λ e k h. absurd (omega arith); one = λ e. absurd (omega arith) }
+
+  module _ (count last place : ℕ) (c : Counting arcs count last place) where
+    pub counting-given : place < 7 → Counting arcs (count + 1) place (place + 1)
+    counting-given h =
+        record {
+          bound = omega arith;
+          few = omega (arith, c .few);
+          none = λ e k l. absurd (omega arith);
+          one = λ e. (omega arith, λ k l n. c .none (omega arith) k (apart k l n));
+        }
+      where
+        apart : (k : ℕ) → k < place + 1 → (k ≡ place → ⊥) → k < place
+        apart k l n = omega arith
+
+    pub counting-not : place < 7 → arcsGiven (arcsAt arcs place) ≡ false → Counting arcs count last (place + 1)
+    counting-not h e =
+        record {
+          bound = omega arith;
+          few = omega (arith, c .few);
+          none = λ z. below-more _ _ (c .none z) e;
+          one = λ z. (omega (arith, c .one z), λ k l n. go k n (decLe place k) (λ m. c .one z .1 k m n) l);
+        }
+      where
+        go : (k : ℕ) → (k ≡ last → ⊥) → Dec (place ≤ k) → (k < place → arcsGiven (arcsAt arcs k) ≡ false) → k < place + 1 → arcsGiven (arcsAt arcs k) ≡ false
+        go k n (yes m) before l = ap (λ (j : ℕ). arcsGiven (arcsAt arcs j)) {x = k} {y = place} (omega arith) ∙ e
+        go k n (no m) before l = before (omega arith)
+
+    pub counting-end : 7 ≤ place → GivenPlaces arcs (record { count = count; last = last })
+    counting-end h =
+        record {
+          none = λ z k l n. c .none z k (omega (arith, c .bound));
+          one = λ z. (omega (arith, c .one z, c .bound), λ k l n. c .one z .1 k (omega (arith, c .bound)) n);
+        }
 
 module _ (q : Query) (d : Day) where
-  -- where no arc of another body is given, the elements decide
-  pub elements-decide : otherArcsGiven (q .arcs) ≡ false → isEdition (q .edition) && (inRange d && queryElementsMet q d) ≡ othersMet q d
-  unfolding otherArcsGiven othersMet otherArcsMet inArcs
-  elements-decide e =
+  arcs-free : otherArcsGiven (q .arcs) ≡ false → otherArcsMet (q .arcs) d ≡ true
+  unfolding otherArcsGiven otherArcsMet inArcs
+  arcs-free e =
       let arc = all-false (λ (body : ℕ). arcsGiven (arcsAt (q .arcs) body)) e in
       rw (arc 1 (lit< tt) (lit< tt), arc 2 (lit< tt) (lit< tt), arc 3 (lit< tt) (lit< tt), arc 4 (lit< tt) (lit< tt), arc 5 (lit< tt) (lit< tt), arc 6 (lit< tt) (lit< tt), arc 7 (lit< tt) (lit< tt), arc 8 (lit< tt) (lit< tt))
 
-  -- where nothing more is asked, nothing more is to be met
-  pub no-more : isEdition (q .edition) ≡ true → moreAsked q ≡ Nothing → inRange d ≡ true → othersMet q d ≡ true
-  unfolding elementsMet meets
-  no-more edition e r =
-      let none = nothing-more q e in
-      let tithi = neither (q .tithi .given) (q .nakshatra .given || q .yoga .given) (none .1) in
-      let others = neither (q .nakshatra .given) (q .yoga .given) (tithi .1) in
-      sym (elements-decide (none .0)) ∙ rw (edition, r, tithi .0, others .0, others .1)
+  elements-free : elementsGiven q ≡ false → queryElementsMet q d ≡ true
+  unfolding elementsGiven elementsMet meets
+  elements-free e =
+      let tithi = neither (q .tithi .given) (q .nakshatra .given || (q .yoga .given || q .karana .given)) e in
+      let nakshatra = neither (q .nakshatra .given) (q .yoga .given || q .karana .given) (tithi .1) in
+      let others = neither (q .yoga .given) (q .karana .given) (nakshatra .1) in
+      rw (tithi .0, nakshatra .0, others .0, others .1)
+
+  place-free : (k : ℕ) → arcsGiven (arcsAt (q .«true_arcs») k) ≡ false → placeMet (q .edition) (q .«true_arcs») d k ≡ true
+  unfolding inArcs
+  place-free k e = rw e
+
+  places-free : NoneBut (q .«true_arcs») 7 → trueArcsMet (q .edition) (q .«true_arcs») d ≡ true
+  places-free h = places-met (q .edition) (q .«true_arcs») d (λ k l. place-free k (h k l (λ e. omega arith)))
+
+  one-place : (k : ℕ) → k < 7 → NoneBut (q .«true_arcs») k → trueArcsMet (q .edition) (q .«true_arcs») d ≡ placeMet (q .edition) (q .«true_arcs») d k
+  unfolding trueArcsMet
+  one-place k l h = each-but (placeMet (q .edition) (q .«true_arcs») d) k l (λ j m n. place-free j (h j m n))
+
+  -- what is left to be met: nothing, the elements, or one true longitude
+  pub no-more : isEdition (q .edition) ≡ true → inRange d ≡ true → Asks q Nothing → othersMet q d ≡ true
+  unfolding othersMet Asks
+  no-more edition r a = rw (edition, r, arcs-free (a .0), elements-free (a .1), places-free (a .2))
+
+  pub elements-decide : Asks q Elements → (isEdition (q .edition) && (inRange d && queryElementsMet q d)) ≡ othersMet q d
+  unfolding othersMet Asks
+  elements-decide a = rw (arcs-free (a .0), places-free (a .1), and-true (queryElementsMet q d))
+
+  pub place-decides :
+      (body : TrueBody) (arcs : BodyArcs) →
+      Asks q (TrueArcs body arcs) →
+      (isEdition (q .edition) && (inRange d && inArcs arcs (trueLongitudeAt (q .edition) (trueNumber body) d))) ≡ othersMet q d
+  unfolding othersMet Asks
+  place-decides body arcs a = rw (a .2, arcs-free (a .0), elements-free (a .1), one-place (trueNumber body) (number-low body) (a .3))

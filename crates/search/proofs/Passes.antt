@@ -14,7 +14,7 @@ use Rattle.entries.specs.Entries.{capacity, withEntry, withEntriesFrom}
 use Rattle.entries.specs.Runs.{filtered}
 use Rattle.entries.proofs.Laws.{with-entry-length}
 use Rattle.query.specs.declared.Query.{Query}
-use Rattle.query.specs.Conditions.{bodyArcsInRange, conditionsInRange}
+use Rattle.query.specs.Conditions.{bodyArcsInRange, elementsInRange, conditionsInRange}
 use Rattle.query.specs.Query.{sunArcs, conditionsMet, inSpan, refusalOf}
 use Rattle.query.proofs.Accepted.{accepted-by, accepts}
 use Rattle.search.specs.declared.Examined.{Examined}
@@ -269,7 +269,7 @@ scannable-rest q start room larger tally e f t l m =
 -- a query over one day alone can be examined on it, and says of it what is said of any day
 module _ (q : Query) (n : ℕ) (alone : Query) (visit : Visit) (e : refusalOf q ≡ 0) (h : n ≤ lastDay) (f : alone ≡ over q n n) (g : visit ≡ firstVisit alone) where
   alone-accepted : refusalOf (over q n n) ≡ 0
-  unfolding refusalOf conditionsInRange
+  unfolding refusalOf conditionsInRange elementsInRange
   alone-accepted = let a = accepted-by q e in accepts (over q n n) (a .edition) (omega arith) h (unfold conditionsInRange in a .conditions)
 
   alone-span : inSpan (over q n n) n ≡ true

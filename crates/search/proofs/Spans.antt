@@ -9,7 +9,7 @@ use Rattle.days.specs.Days.{daysFrom}
 use Rattle.entries.specs.Runs.{filtered}
 use Rattle.entries.proofs.Lists.{days-join, filtered-join}
 use Rattle.query.specs.declared.Query.{Query}
-use Rattle.query.specs.Conditions.{conditionsInRange, elementsMet}
+use Rattle.query.specs.Conditions.{elementsInRange, conditionsInRange, elementsMet}
 use Rattle.query.specs.Query.{conditionsMet, refusalOf}
 use Rattle.query.proofs.Accepted.{accepted-by, accepts}
 use Rattle.search.specs.Days.{matchingDays}
@@ -62,4 +62,4 @@ module _ (q : Query) where
       accepts (between q a b) (by .edition) h (omega (arith, by .last)) (same (by .conditions))
     where
       same : conditionsInRange q ≡ true → conditionsInRange (between q a b) ≡ true
-      same h = unfold conditionsInRange in h
+      same h = unfold conditionsInRange elementsInRange in h

@@ -13,8 +13,10 @@ use Rattle.query.specs.declared.BodyArcs.{BodyArcs}
 use Rattle.query.specs.declared.Query.{Query}
 use Rattle.query.specs.Conditions.{eachOther, arcsAt, arcsGiven, givenArcs, inArc, inSome, nearestStart}
 use Rattle.query.specs.Query.{conditionsMet, refusalOf}
+use Rattle.query.specs.TrueBodies.{trueNumber}
 use Rattle.search.specs.declared.More.{More}
-use Rattle.search.specs.declared.More.the-variants.{Nothing, Elements, Arcs}
+use Rattle.search.specs.declared.More.the-variants.{Nothing, Elements, TrueArcs, Several}
+use Rattle.search.specs.declared.Places.{Places}
 use Rattle.search.specs.declared.Approach.{Approach}
 use Rattle.search.specs.declared.Visit.{Visit}
 use Rattle.search.specs.declared.Tally.{Tally}
@@ -29,12 +31,24 @@ unfoldable pub otherArcsGiven : List BodyArcs → Bool
 otherArcsGiven arcs = someOther (λ (body : ℕ). arcsGiven (arcsAt arcs body))
 
 -- an element is asked for
-abbrev pub elementsGiven : Query → Bool
-elementsGiven q = q .tithi .given || (q .nakshatra .given || q .yoga .given)
+unfoldable pub elementsGiven : Query → Bool
+elementsGiven q = q .tithi .given || (q .nakshatra .given || (q .yoga .given || q .karana .given))
 
--- what is asked beside the Sun's arcs and the weekdays
-unfoldable pub moreAsked : Query → More
-moreAsked q = cond (otherArcsGiven (q .arcs)) Arcs (cond (elementsGiven q) Elements Nothing)
+-- no true longitude is asked for, but perhaps that of one place
+abbrev pub NoneBut : List BodyArcs → ℕ → Type 0
+NoneBut arcs place = (k : ℕ) → k < 7 → (k ≡ place → ⊥) → arcsGiven (arcsAt arcs k) ≡ false
+
+-- the places of which a true longitude is asked for: there are none, or there is one
+pub record GivenPlaces (arcs : List BodyArcs) (places : Places) : Type 0 where
+  pub none : places .count ≡ 0 → NoneBut arcs 7
+  pub one : places .count ≡ 1 → (places .last < 7) × NoneBut arcs (places .last)
+
+-- what is asked beside the mean Sun's arcs and the weekdays is what is said, and no more
+unfoldable pub Asks : Query → More → Type 0
+Asks q Nothing = (otherArcsGiven (q .arcs) ≡ false) × (elementsGiven q ≡ false) × NoneBut (q .«true_arcs») 7
+Asks q Elements = (otherArcsGiven (q .arcs) ≡ false) × NoneBut (q .«true_arcs») 7
+Asks q (TrueArcs body arcs) = (otherArcsGiven (q .arcs) ≡ false) × (elementsGiven q ≡ false) × (arcs ≡ arcsAt (q .«true_arcs») (trueNumber body)) × NoneBut (q .«true_arcs») (trueNumber body)
+Asks q Several = Unit {0}
 
 -- how many of the matching days are kept beside a list that may be too short for them
 abbrev pub kept : ℕ

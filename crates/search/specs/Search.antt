@@ -7,7 +7,7 @@ use Prim.Native.Nat.{ℕ, _≤_}
 use lib.Dec.{leb, eqb}
 use lib.ListN.{length}
 use Rattle.days.specs.Refusals.{accepted, listTooShort}
-use Rattle.entries.specs.Entries.{capacity, withEntries}
+use Rattle.entries.specs.Entries.{capacity, withEntries, withEntriesFrom}
 use Rattle.query.specs.declared.Query.{Query}
 use Rattle.query.specs.Query.{refusalOf}
 use Rattle.search.specs.declared.Found.{Found}
@@ -25,6 +25,10 @@ unlessRefused q n = cond (eqb (refusalOf q) accepted) n 0
 -- the list after: with the matching days' entries, or by any refusal the whole list as it was
 unfoldable pub listAfter : Query → List ℕ → List ℕ
 listAfter q before = cond (eqb (resultOf q (capacity before)) accepted) (withEntries (matchingDays q) before) before
+
+-- the list with the first of the matching days, as many as it has entries
+unfoldable pub firstListed : Query → List ℕ → List ℕ
+firstListed q before = cond (eqb (refusalOf q) accepted) (withEntriesFrom before 0 (matchingDays q)) before
 
 -- what is handed back without a list: the true length and the number of days looked at, which are the same for 0 and 7
 pub record Measured (q : Query) (found : Found) : Type 0 where

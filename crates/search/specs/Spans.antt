@@ -14,5 +14,7 @@ between q a b =
       tithi = q .tithi;
       nakshatra = q .nakshatra;
       yoga = q .yoga;
+      karana = q .karana;
       arcs = q .arcs;
+      «true_arcs» = q .«true_arcs»;
     }

@@ -7,6 +7,9 @@ use longitudes::CIRCLE;
 use query::Arc;
 use query::BodyArcs;
 use query::Query;
+use query::TRUE_BODIES;
+use query::TRUE_ORDER;
+use query::TrueBody;
 ghost use mathlib.Core.Path.{_≡_};
 ghost use mathlib.Core.Bool.{true};
 ghost use Prim.Native.Nat.{_+_, _≤_};
@@ -17,9 +20,9 @@ ghost use Rattle.query.specs.Conditions.{arcsGiven, bodyArcsInRange};
 ghost use Rattle.query.specs.Query.{inSpan, refusalOf};
 ghost use Rattle.search.specs.Look.{notExamined, examinedOf};
 ghost use Rattle.search.specs.Days.{matchingDays};
-ghost use Rattle.search.specs.Search.{Measured, Searched};
+ghost use Rattle.search.specs.Search.{Measured, Searched, firstListed};
 ghost use Rattle.search.specs.Spans.{between};
-ghost use Rattle.search.specs.Parts.{otherArcsGiven, moreAsked, leadingArc, bothGiven, approachTo, Approached, VisitAt, firstVisit, visitAfter, kept, Scannable, Tallied};
+ghost use Rattle.search.specs.Parts.{otherArcsGiven, elementsGiven, GivenPlaces, Asks, leadingArc, bothGiven, approachTo, Approached, VisitAt, firstVisit, visitAfter, kept, Scannable, Tallied};
 
 // The most that the mean Sun advances in a day, in seconds of arc.
 const SUN_ADVANCE: u32 = 3549;
@@ -64,12 +67,19 @@ struct Tally {
     resume: Visit,
 }
 
-// What is asked beside the Sun's arcs and the weekdays: nothing, elements alone, or other bodies' arcs, with elements
-// or without.
+// What is asked beside the mean Sun's arcs and the weekdays: nothing, elements alone, one body's true longitude alone,
+// or several of these or other bodies' mean longitudes.
 enum More {
     Nothing,
     Elements,
-    Arcs,
+    TrueArcs { body: TrueBody, arcs: BodyArcs },
+    Several,
+}
+
+// Of how many bodies a true longitude is asked for, and the place of the last of them.
+struct Places {
+    count: usize,
+    last: usize,
 }
 
 impl Examined {
@@ -117,22 +127,62 @@ impl Found {
 }
 
 fn more_asked(query: Query) -> More
-    ensures { λ r. ⌜ r ≡ moreAsked query ⌝ }
+    ensures { λ r. ⌜ Asks query r ⌝ }
 {
     let arcs = query.arcs;
     if other_arcs_given(arcs) {
-        return More::Arcs;
+        return More::Several;
     }
+    let true_arcs = query.true_arcs;
+    let places = given_places(true_arcs);
+    if elements_given(query) {
+        if places.count == 0 {
+            return More::Elements;
+        }
+        return More::Several;
+    }
+    if places.count == 0 {
+        return More::Nothing;
+    }
+    if places.count == 1 {
+        let last = places.last;
+        let body = TRUE_ORDER[last];
+        let asked = true_arcs[last];
+        return More::TrueArcs { body, arcs: asked };
+    }
+    More::Several
+}
+
+fn elements_given(query: Query) -> bool
+    ensures { λ r. ⌜ r ≡ elementsGiven query ⌝ }
+{
     if query.tithi.given {
-        return More::Elements;
+        return true;
     }
     if query.nakshatra.given {
-        return More::Elements;
+        return true;
     }
     if query.yoga.given {
-        return More::Elements;
+        return true;
     }
-    More::Nothing
+    query.karana.given
+}
+
+fn given_places(arcs: [BodyArcs; TRUE_BODIES]) -> Places
+    ensures { λ r. ⌜ GivenPlaces arcs r ⌝ }
+{
+    let mut count = 0;
+    let mut last = 0;
+    let mut place = 0;
+    while place < TRUE_BODIES {
+        let of_body = arcs[place];
+        if of_body.given() {
+            count += 1;
+            last = place;
+        }
+        place += 1;
+    }
+    Places { count, last }
 }
 
 fn other_arcs_given(arcs: [BodyArcs; 9]) -> bool
@@ -216,10 +266,11 @@ fn nearer(arcs: BodyArcs, longitude: u32) -> Approach
 // asked, which may be nothing. (That the day is one at all it tests so that the compiler reckons in 32 bits. What
 // decides a day with the Sun in its arcs stands twice: once, behind an `if` for the Sun, it makes a sparse search take
 // a tenth more time and a dense one a fifth, since the compiler then puts `others_met`, to which most days do not come,
-// into the scan's loop. Where no other body has an arc, the elements alone are handed on: a whole query is copied field
-// by field.)
-fn examine_day(query: Query, visit: Visit) -> Examined
+// into the scan's loop. Where the elements or one true longitude is all that is asked, these alone are handed on: a
+// whole query is copied field by field.)
+fn examine_day(query: Query, more: More, visit: Visit) -> Examined
     requires { ⌜ refusalOf query ≡ 0 ⌝ }
+    requires { ⌜ Asks query more ⌝ }
     requires { ⌜ inSpan query (visit .day) ≡ true ⌝ }
     requires { ⌜ VisitAt query (visit .examined) (visit .day) ⌝ }
     ensures { λ r. ⌜ r ≡ examinedOf query (visit .day) ⌝ }
@@ -231,7 +282,6 @@ fn examine_day(query: Query, visit: Visit) -> Examined
     }
     let pair = there.day;
     let weekdays = query.weekdays;
-    let more = more_asked(query);
     let arcs = query.arcs[0];
     if !arcs.given() {
         if !weekdays.admit(day) {
@@ -245,11 +295,16 @@ fn examine_day(query: Query, visit: Visit) -> Examined
                     query.tithi,
                     query.nakshatra,
                     query.yoga,
+                    query.karana,
                     pair,
                 ),
                 day + 1,
             ),
-            More::Arcs => Examined::accepted(query::others_met(query, pair), day + 1),
+            More::TrueArcs { body, arcs } => Examined::accepted(
+                query::true_arcs_have(query.edition, body, arcs, pair),
+                day + 1,
+            ),
+            More::Several => Examined::accepted(query::others_met(query, pair), day + 1),
         };
     }
     let sun = longitudes::mean_longitude(Body::Sun, pair);
@@ -266,11 +321,16 @@ fn examine_day(query: Query, visit: Visit) -> Examined
                     query.tithi,
                     query.nakshatra,
                     query.yoga,
+                    query.karana,
                     pair,
                 ),
                 day + 1,
             ),
-            More::Arcs => Examined::accepted(query::others_met(query, pair), day + 1),
+            More::TrueArcs { body, arcs } => Examined::accepted(
+                query::true_arcs_have(query.edition, body, arcs, pair),
+                day + 1,
+            ),
+            More::Several => Examined::accepted(query::others_met(query, pair), day + 1),
         };
     }
     Examined::accepted(
@@ -317,7 +377,9 @@ fn over_day(query: Query, day: u32) -> Query
     let tithi = query.tithi;
     let nakshatra = query.nakshatra;
     let yoga = query.yoga;
+    let karana = query.karana;
     let arcs = query.arcs;
+    let true_arcs = query.true_arcs;
     Query {
         first: day,
         last: day,
@@ -326,7 +388,9 @@ fn over_day(query: Query, day: u32) -> Query
         tithi,
         nakshatra,
         yoga,
+        karana,
         arcs,
+        true_arcs,
     }
 }
 
@@ -347,8 +411,9 @@ pub fn examine(query: Query, day: u32) -> Examined
         return Examined::refused(refusal);
     }
     let alone = over_day(query, day);
+    let more = more_asked(alone);
     let visit = first_visit(alone);
-    let seen = examine_day(alone, visit);
+    let seen = examine_day(alone, more, visit);
     if in_span(query, day) {
         return seen;
     }
@@ -367,12 +432,13 @@ fn scan(query: Query, start: Visit, count: u32, until: u32, output: &mut [u8]) -
     ensures { λ _. ⌜ now (output .exit) ≡ withEntriesFrom (now (output .entry)) count (drop count (matchingDays query)) ⌝ }
 {
     let room = output.len() / entries::ENTRY_BYTES;
+    let more = more_asked(query);
     let mut visit = start;
     let mut length = count;
     let mut latest = start.day;
     let mut resume = start;
     while visit.day <= until {
-        let seen = examine_day(query, visit);
+        let seen = examine_day(query, more, visit);
         let next = next_visit(visit, seen);
         if seen.matches {
             let index = length as usize;
@@ -405,6 +471,21 @@ pub fn measure(query: Query) -> Found
     let start = first_visit(query);
     let tally = scan(query, start, 0, query.last, &mut none);
     Found::counted(refusal::NONE, tally)
+}
+
+// How many days match and how many the search examines, with the first of the matching days written to the list, as
+// many as it has entries: for a list that its owner lets stand half filled.
+pub fn list_first(query: Query, list: &mut [u8]) -> Found
+    ensures { λ f. ⌜ Measured query f ⌝ }
+    ensures { λ _. ⌜ now (list .exit) ≡ firstListed query (now (list .entry)) ⌝ }
+{
+    let refusal = query.refusal();
+    if refusal != refusal::NONE {
+        return Found::refused(refusal);
+    }
+    let start = first_visit(query);
+    let all = scan(query, start, 0, query.last, list);
+    Found::counted(refusal::NONE, all)
 }
 
 // The second pass, for the matching days behind those that the first one kept: it goes on from the visit behind the

@@ -10,9 +10,9 @@ use Rattle.days.specs.Days.{daysFrom, spanRefusal, dayOf}
 use Rattle.entries.specs.Runs.{filtered}
 use Rattle.integers.specs.Integers.{floorOver, reduced}
 use Rattle.longitudes.specs.Longitudes.{table, meanLongitude, longitudeAt}
-use Rattle.page.specs.Page.{withCondition, rankOf, ranksBefore, firstRefusal, firstValue, secondValue, numbersRead, mostValues, valuesRead, conditionRead, wordsRead, lineRead}
+use Rattle.page.specs.Page.{isElement, withCondition, rankOf, ranksBefore, firstRefusal, firstValue, secondValue, numbersRead, mostValues, valuesRead, conditionRead, wordsRead, lineRead}
 use Rattle.panchanga.specs.TrueLongitudes.{isEdition}
-use Rattle.query.specs.Conditions.{askedInRange, weekdaysInRange, arcInRange, bodyArcsInRange, arcsInRange, conditionsInRange}
+use Rattle.query.specs.Conditions.{numbersInRange, weekdaysInRange, arcInRange, bodyArcsInRange, arcsInRange, trueArcsInRange, elementsInRange, conditionsInRange}
 use Rattle.query.specs.Query.{refusalOf}
 use Rattle.span_line.specs.SpanLine.{spanLine, isOneLine, spanRead, spanInput}
 use Rattle.text.specs.Ascii.{ascii}
@@ -40,5 +40,5 @@ pub worked :
     ∷ ascii "refused 2\n"
     ∷ ascii "refused 3\n"
     ∷ []
-unfolding isSeparator runLength upTo afterFirst trimmed afterWords sameBytes placeIn nameAt isDigit allDigits withDigit valueOf isNumber numberRead digitsWithin digitsOf spaced refusalLine threeRead numberOr dateRead dayRead isEdition askedInRange weekdaysInRange arcInRange bodyArcsInRange arcsInRange conditionsInRange spanRefusal dayOf refusalOf withCondition rankOf ranksBefore firstRefusal firstValue secondValue numbersRead mostValues valuesRead conditionRead wordsRead lineRead spanLine isOneLine spanRead spanInput leap monthDays sameDate next dateOn dateOfDay dateBytes dayBytes namedDayBytes daysFrom filtered floorOver reduced table meanLongitude longitudeAt entersOn signEntries signHeading signLine signLines joined
+unfolding isSeparator runLength upTo afterFirst trimmed afterWords sameBytes placeIn nameAt isDigit allDigits withDigit valueOf isNumber numberRead digitsWithin digitsOf spaced refusalLine threeRead numberOr dateRead dayRead isEdition numbersInRange weekdaysInRange arcInRange bodyArcsInRange arcsInRange trueArcsInRange elementsInRange conditionsInRange spanRefusal dayOf refusalOf isElement withCondition rankOf ranksBefore firstRefusal firstValue secondValue numbersRead mostValues valuesRead conditionRead wordsRead lineRead spanLine isOneLine spanRead spanInput leap monthDays sameDate next dateOn dateOfDay dateBytes dayBytes namedDayBytes daysFrom filtered floorOver reduced table meanLongitude longitudeAt entersOn signEntries signHeading signLine signLines joined
 worked = refl

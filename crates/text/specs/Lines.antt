@@ -20,7 +20,7 @@ newline = code "\n"
 
 -- the bytes that a line has room for
 abbrev pub lineCapacity : ℕ
-lineCapacity = 128
+lineCapacity = 160
 
 abbrev pub emptyLine : Line
 emptyLine = record { bytes = replicate lineCapacity 0; len = 0 }

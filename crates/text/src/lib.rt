@@ -113,7 +113,7 @@ fn decimal(n: u64) -> Digits
 
 impl Line {
     // The bytes that a line has room for.
-    pub const CAPACITY: usize = 128;
+    pub const CAPACITY: usize = 160;
 
     pub fn empty() -> Line
         ensures { λ r. ⌜ r ≡ emptyLine ⌝ }

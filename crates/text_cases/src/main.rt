@@ -67,13 +67,13 @@ fn print_readings(input: &[u8]) {
     }
 }
 
-// 120 bytes, and then of ten digits the eight that fit.
+// 152 bytes, and then of ten digits the eight that fit.
 fn print_full_line() {
-    let sixty = b"------------------------------------------------------------";
+    let half = b"----------------------------------------------------------------------------";
     write(
         Line::empty()
-            .text(sixty)
-            .text(sixty)
+            .text(half)
+            .text(half)
             .number(1234567890)
             .byte(b'\n'),
     );

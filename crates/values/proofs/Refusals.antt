@@ -13,7 +13,7 @@ use Rattle.days.specs.Weekdays.{inSet}
 use Rattle.text.specs.Decimal.{isNumber, numberRead}
 use Rattle.words.specs.Words.{dash, firstWord, afterWord}
 use Rattle.values.specs.declared.Three.{Three}
-use Rattle.values.specs.Values.{isRead, threeRead, dateRead, numberOr, dayRead, weekdayRead, withWeekday, setRead, weekdaysRead, noneRead}
+use Rattle.values.specs.Values.{isRead, threeRead, dateRead, numberOr, dayRead, weekdayRead, withWeekday, inNumbers, withNumberRead, withWord, setRead, setOf, noneRead}
 
 -- what holds of both cases holds of the one that a test picks
 pub either : {A : Type 0} (P : A → Type 0) (t : Bool) {x y : A} → P x → P y → P (cond t x y)
@@ -48,17 +48,26 @@ with-weekday-refusal : (set : ℕ) (w : NumberAnswer) → OfReading (withWeekday
 unfolding withWeekday
 with-weekday-refusal set w = either OfReading (isRead w) (either OfReading (inSet set (w .number)) (omega arith) (omega arith)) (omega arith)
 
+with-number-refusal : (set : ℕ) (n : NumberAnswer) → OfReading (withNumberRead set n)
+unfolding withNumberRead
+with-number-refusal set n =
+    either OfReading (isRead n) (either OfReading (inNumbers set (n .number)) (omega arith) (omega arith)) (omega arith)
+
+with-word-refusal : (weekdays : Bool) (set : ℕ) (w : List ℕ) → OfReading (withWord weekdays set w)
+unfolding withWord
+with-word-refusal weekdays set w = either OfReading weekdays (with-weekday-refusal set (weekdayRead w)) (with-number-refusal set (numberRead w))
+
 set-refusal : (set : ℕ) → OfReading (setRead set)
 unfolding setRead
 set-refusal set = either OfReading (eqb set 0) (omega arith) (omega arith)
 
-pub weekdays-refusal : (n set : ℕ) (t : List ℕ) → OfReading (weekdaysRead n set t)
-unfolding weekdaysRead
-weekdays-refusal zero set t = either OfReading (eqb (length (firstWord t)) 0) (set-refusal set) (omega arith)
-weekdays-refusal (suc n) set t =
-    let more = withWeekday set (weekdayRead (firstWord t)) in
+pub set-of-refusal : (weekdays : Bool) (n set : ℕ) (t : List ℕ) → OfReading (setOf weekdays n set t)
+unfolding setOf
+set-of-refusal weekdays zero set t = either OfReading (eqb (length (firstWord t)) 0) (set-refusal set) (omega arith)
+set-of-refusal weekdays (suc n) set t =
+    let more = withWord weekdays set (firstWord t) in
     either OfReading (eqb (length (firstWord t)) 0) (set-refusal set)
-    (either OfReading (isRead more) (weekdays-refusal n (more .number) (afterWord t)) (with-weekday-refusal set (weekdayRead (firstWord t))))
+    (either OfReading (isRead more) (set-of-refusal weekdays n (more .number) (afterWord t)) (with-word-refusal weekdays set (firstWord t)))
 
 pub none-refusal : (w : List ℕ) → OfReading (noneRead w)
 unfolding noneRead

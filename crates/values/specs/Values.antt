@@ -1,16 +1,17 @@
--- What the values of a line mean: each is a word, read as a number, or the refusal of a bad line; and the weekdays of a
--- line, as a set.
+-- What the values of a line mean: each is a word, read as a number, or the refusal of a bad line; and the weekdays or
+-- the numbers of a line, as a set.
 -- Assumes nothing.
 use mathlib.Core.Bool.{Bool, true, false, cond, _&&_}
 use mathlib.Core.List.{List}
 use Prim.Native.Nat.{ℕ, zero, suc, _+_, _*_}
-use lib.Dec.{eqb, ltb}
+use lib.Dec.{eqb, leb, ltb}
 use lib.ListN.{length}
 use Rattle.civil.specs.Answers.{dayOfDate}
 use Rattle.days.specs.declared.NumberAnswer.{NumberAnswer}
 use Rattle.days.specs.Refusals.{accepted, badInput}
 use Rattle.days.specs.Days.{theNumber, noNumber}
 use Rattle.days.specs.Weekdays.{bitOf, inSet}
+use Rattle.query.specs.Conditions.{hasNumber, withNumber}
 use Rattle.text.specs.Decimal.{numberRead}
 use Rattle.values.specs.declared.Three.{Three}
 use Rattle.words.specs.Words.{dash, colon, upTo, afterFirst, firstWord, afterWord, placeIn}
@@ -64,16 +65,44 @@ unfoldable pub withWeekday : ℕ → NumberAnswer → NumberAnswer
 withWeekday set w =
     cond (isRead w) (cond (inSet set (w .number)) (noNumber badInput) (theNumber (set + bitOf (w .number)))) (noNumber badInput)
 
--- a set; there is none without a weekday
+-- a query's set has a number; from 31 on it does not tell one from another, and those are out of range in any case
+unfoldable pub inNumbers : ℕ → ℕ → Bool
+inNumbers set n = leb n 30 && hasNumber set n
+
+-- a query's set with a number more; one that is in it already, or is not read, makes the line malformed
+unfoldable pub withNumberRead : ℕ → NumberAnswer → NumberAnswer
+withNumberRead set n =
+    cond (isRead n)
+    (cond (inNumbers set (n .number)) (noNumber badInput) (theNumber (withNumber (record { given = true; set = set }) (n .number) .set)))
+    (noNumber badInput)
+
+-- a set with a word more, a weekday or a number
+unfoldable pub withWord : Bool → ℕ → List ℕ → NumberAnswer
+withWord weekdays set w = cond weekdays (withWeekday set (weekdayRead w)) (withNumberRead set (numberRead w))
+
+-- a set; there is none without a word
 unfoldable pub setRead : ℕ → NumberAnswer
 setRead set = cond (eqb set 0) (noNumber badInput) (theNumber set)
 
--- a set with the weekdays of a text's words, in any order: at most n words, and each weekday once
-unfoldable pub weekdaysRead : ℕ → ℕ → List ℕ → NumberAnswer
-weekdaysRead zero set t = cond (eqb (length (firstWord t)) 0) (setRead set) (noNumber badInput)
-weekdaysRead (suc n) set t =
+-- a set with a text's words, in any order: at most n words, and each weekday or number once
+unfoldable pub setOf : Bool → ℕ → ℕ → List ℕ → NumberAnswer
+setOf weekdays zero set t = cond (eqb (length (firstWord t)) 0) (setRead set) (noNumber badInput)
+setOf weekdays (suc n) set t =
     cond (eqb (length (firstWord t)) 0) (setRead set)
-    (let more = withWeekday set (weekdayRead (firstWord t)) in cond (isRead more) (weekdaysRead n (more .number) (afterWord t)) more)
+    (let more = withWord weekdays set (firstWord t) in cond (isRead more) (setOf weekdays n (more .number) (afterWord t)) more)
+
+-- the weekdays of a line, and its numbers
+abbrev pub mostWeekdays : ℕ
+mostWeekdays = 7
+
+abbrev pub mostNumbers : ℕ
+mostNumbers = 30
+
+abbrev pub weekdaysRead : List ℕ → NumberAnswer
+weekdaysRead t = setOf true mostWeekdays 0 t
+
+abbrev pub numberSetRead : List ℕ → NumberAnswer
+numberSetRead t = setOf false mostNumbers 0 t
 
 -- no word at all
 unfoldable pub noneRead : List ℕ → NumberAnswer

@@ -1,16 +1,26 @@
-// The values of a line: each is a word, read as a number, and the weekdays of a line as a set.
+// The values of a line: each is a word, read as a number, and the weekdays or the numbers of a line as a set.
 use civil::Date;
 use days::NumberAnswer;
 use days::refusal;
+use query::Asked;
 use text::read_decimal;
 use words::after;
 use words::after_word;
 use words::first_word;
 use words::up_to;
 use words::weekday_place;
+ghost use mathlib.Core.Bool.{true};
 ghost use mathlib.Core.Path.{_≡_};
 ghost use Prim.Native.Nat.{_≤_};
-ghost use Rattle.values.specs.Values.{threeRead, sexagesimalRead, angleRead, dateRead, dayRead, weekdayRead, withWeekday, setRead, weekdaysRead, noneRead};
+ghost use Rattle.values.specs.Values.{threeRead, sexagesimalRead, angleRead, dateRead, dayRead, mostWeekdays, weekdayRead, withWeekday, inNumbers, withNumberRead, withWord, setRead, setOf, weekdaysRead, numberSetRead, noneRead};
+
+// The most words that a line's set is made of: each weekday, and as many numbers as there are tithis.
+pub const MOST_WEEKDAYS: usize = 7;
+
+pub const MOST_NUMBERS: usize = 30;
+
+// The largest number that has a bit of its own in a query's set.
+const LARGEST: u32 = 30;
 
 // Three numbers with a separator between them.
 struct Three {
@@ -128,6 +138,43 @@ fn with_weekday(set: u32, weekday: NumberAnswer) -> NumberAnswer
     NumberAnswer::accepted(set + bit)
 }
 
+// Whether a query's set has a number with a bit of its own.
+fn has_number(set: u32, number: u32) -> bool
+    ensures { λ r. ⌜ r ≡ inNumbers set number ⌝ }
+{
+    if LARGEST < number {
+        return false;
+    }
+    let asked = Asked { given: true, set };
+    asked.has(number)
+}
+
+// The set with a number more, as a query has it, which must not be in it.
+fn with_number(set: u32, number: NumberAnswer) -> NumberAnswer
+    ensures { λ r. ⌜ r ≡ withNumberRead set number ⌝ }
+{
+    if number.refusal != refusal::NONE {
+        return NumberAnswer::refused(refusal::BAD_INPUT);
+    }
+    if has_number(set, number.number) {
+        return NumberAnswer::refused(refusal::BAD_INPUT);
+    }
+    let asked = Asked { given: true, set };
+    let more = asked.with(number.number);
+    NumberAnswer::accepted(more.set)
+}
+
+// The set with a word more, a weekday or a number.
+fn with_word(weekdays: bool, set: u32, word: &[u8]) -> NumberAnswer
+    requires { ⌜ (weekdays ≡ true → set ≤ 768) ⌝ }
+    ensures { λ r. ⌜ r ≡ withWord weekdays set (now (word .entry)) ⌝ }
+{
+    if weekdays {
+        return with_weekday(set, weekday(word));
+    }
+    with_number(set, read_decimal(word))
+}
+
 fn no_empty_set(set: u32) -> NumberAnswer
     ensures { λ r. ⌜ r ≡ setRead set ⌝ }
 {
@@ -138,12 +185,13 @@ fn no_empty_set(set: u32) -> NumberAnswer
     }
 }
 
-// The weekdays of a line, one to seven words, as a set.
-pub fn weekdays(text: &[u8]) -> NumberAnswer
-    ensures { λ r. ⌜ r ≡ weekdaysRead 7 0 (now (text .entry)) ⌝ }
+// The words of a line, one to so many, as a set of weekdays or of numbers.
+fn set_of(weekdays: bool, most: usize, text: &[u8]) -> NumberAnswer
+    requires { ⌜ (weekdays ≡ true → most ≤ mostWeekdays) ⌝ }
+    ensures { λ r. ⌜ r ≡ setOf weekdays most 0 (now (text .entry)) ⌝ }
 {
     let mut set = 0;
-    let mut left: u32 = 7;
+    let mut left = most;
     let mut rest = text;
     loop {
         let word = first_word(rest);
@@ -153,7 +201,7 @@ pub fn weekdays(text: &[u8]) -> NumberAnswer
         if left == 0 {
             return NumberAnswer::refused(refusal::BAD_INPUT);
         }
-        let found = with_weekday(set, weekday(word));
+        let found = with_word(weekdays, set, word);
         if found.refusal != refusal::NONE {
             return found;
         }
@@ -162,6 +210,20 @@ pub fn weekdays(text: &[u8]) -> NumberAnswer
         let others = after_word(rest);
         rest = others;
     }
+}
+
+// The weekdays of a line, one to seven words, as a set.
+pub fn weekdays(text: &[u8]) -> NumberAnswer
+    ensures { λ r. ⌜ r ≡ weekdaysRead (now (text .entry)) ⌝ }
+{
+    set_of(true, MOST_WEEKDAYS, text)
+}
+
+// The numbers of a line, one to thirty words, as a query's set.
+pub fn number_set(text: &[u8]) -> NumberAnswer
+    ensures { λ r. ⌜ r ≡ numberSetRead (now (text .entry)) ⌝ }
+{
+    set_of(false, MOST_NUMBERS, text)
 }
 
 // The place of a value that the line must not have.

@@ -1,4 +1,19 @@
 // Reads a day and a page from standard input and prints why the day is not in the page's list, or that it fits.
+ghost use mathlib.Core.Path.{_≡_};
+ghost use Rattle.reply.specs.Replies.{remarksFor};
+
+// The only way to say how a page was understood. By what it requires the bytes are all that is said of it.
+fn say_all(input: &[u8], bytes: &[u8])
+    requires { ⌜ now bytes ≡ remarksFor (now input) ⌝ }
+{
+    output::say_bytes(bytes);
+}
+
+fn say_remarks(input: &[u8]) {
+    let mut buffer = [0u8; remarks::ROOM];
+    let bytes = reply::put_remarks(input, &mut buffer);
+    say_all(input, &buffer[..bytes]);
+}
 
 fn main() {
     let mut buffer = [0u8; text::TOO_LONG];
@@ -6,6 +21,7 @@ fn main() {
     let reply = reply::to_input(&buffer[..n]);
     let printed = reply.printed;
     let said = reply.said;
+    say_remarks(&buffer[..n]);
     output::print(printed);
     output::say(said);
 }

@@ -8,7 +8,7 @@ use borrow.Author.Tests.{ltb-false, leb-true}
 use lib.Dec.{ltb, leb}
 use lib.ListN.{length, drop-of-length-le}
 use Rattle.text.specs.Lines.{space}
-use Rattle.words.specs.Names.{bodyNames}
+use Rattle.words.specs.Names.{bodyNames, trueNames}
 use Rattle.words.specs.Words.{runLength, upTo, afterFirst, pieces, nameAt}
 use Rattle.words.proofs.Pieces.{laterPieces, pieces-first}
 
@@ -74,3 +74,8 @@ name-length most (n ∷ ns) e (suc k) = name-length most ns (and-eq-true-iff (le
 pub body-name-short : (b : ℕ) → length (nameAt bodyNames b) ≤ 7
 unfolding noLonger
 body-name-short b = name-length 7 bodyNames refl b
+
+-- and those of true places twelve
+pub true-name-short : (b : ℕ) → length (nameAt trueNames b) ≤ 12
+unfolding noLonger
+true-name-short b = name-length 12 trueNames refl b

@@ -1,4 +1,4 @@
--- The weekdays and the bodies by name.
+-- The weekdays, the bodies and the true places by name.
 -- Assumes nothing.
 use mathlib.Core.List.{List, [], _∷_}
 use Prim.Native.Nat.{ℕ}
@@ -27,4 +27,16 @@ bodyNames =
     ∷ ascii "jupiter"
     ∷ ascii "venus"
     ∷ ascii "saturn"
+    ∷ []
+
+-- the bodies whose true longitude may be asked for, in the order in which a query has them
+abbrev pub trueNames : List (List ℕ)
+trueNames =
+    ascii "true_sun"
+    ∷ ascii "true_moon"
+    ∷ ascii "true_mars"
+    ∷ ascii "true_mercury"
+    ∷ ascii "true_jupiter"
+    ∷ ascii "true_venus"
+    ∷ ascii "true_saturn"
     ∷ []

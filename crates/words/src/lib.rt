@@ -1,12 +1,15 @@
-// How a text is split into lines, and a line into words; the weekdays and the bodies by name.
+// How a text is split into lines, and a line into words; the weekdays, the bodies and the true places by name.
 ghost use mathlib.Core.Path.{_≡_};
 ghost use Rattle.text.specs.Lines.{space};
-ghost use Rattle.words.specs.Names.{weekdayNames, bodyNames};
+ghost use Rattle.words.specs.Names.{weekdayNames, bodyNames, trueNames};
 ghost use Rattle.words.specs.Words.{isSeparator, inRun, runLength, upTo, afterFirst, trimmed, firstWord, afterWord, afterWords, pieces, placeIn, nameAt};
 
 pub const WEEKDAYS: [u8; 56] = *b"monday tuesday wednesday thursday friday saturday sunday";
 
 pub const BODY_NAMES: [u8; 54] = *b"sun moon apogee node mars mercury jupiter venus saturn";
+
+pub const TRUE_NAMES: [u8; 77] =
+    *b"true_sun true_moon true_mars true_mercury true_jupiter true_venus true_saturn";
 
 // Where the separator is a space, a tab and a carriage return separate too.
 fn separates(separator: u8, b: u8) -> bool
@@ -148,4 +151,11 @@ pub fn body_place(word: &[u8]) -> usize
     ensures { λ r. ⌜ r ≡ placeIn bodyNames (now (word .entry)) ⌝ }
 {
     place_in(&BODY_NAMES, word)
+}
+
+// The place of a true place's name, 0 for true_sun; 7 for a word that is none.
+pub fn true_place(word: &[u8]) -> usize
+    ensures { λ r. ⌜ r ≡ placeIn trueNames (now (word .entry)) ⌝ }
+{
+    place_in(&TRUE_NAMES, word)
 }

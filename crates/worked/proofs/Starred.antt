@@ -14,7 +14,7 @@ use Rattle.longitudes.specs.Answers.{longitudesOf}
 use Rattle.panchanga.specs.TrueLongitudes.{bhuja, equation, signed, corrected, trueLongitude, isEdition, trueMoon}
 use Rattle.panchanga.specs.Elements.{karanaAfter}
 use Rattle.panchanga.specs.OnDays.{trueSunAt, trueMoonAt, tithiAt, nakshatraAt, yogaAt, karanaAt, panchangaOf}
-use Rattle.query.specs.Conditions.{meets, weekdayMet, givenArcs, inArc, inSome, inArcs, nearestStart, arcsMet, elementsMet, askedInRange, weekdaysInRange, arcInRange, bodyArcsInRange, arcsInRange, conditionsInRange}
+use Rattle.query.specs.Conditions.{meets, weekdayMet, givenArcs, inArc, inSome, inArcs, nearestStart, arcsMet, elementsMet, numbersInRange, elementsInRange, trueArcsInRange, trueArcsMet, weekdaysInRange, arcInRange, bodyArcsInRange, arcsInRange, conditionsInRange}
 use Rattle.query.specs.Query.{conditionsMet, refusalOf}
 use Rattle.search.specs.Look.{sunInArcs, nextDay}
 use Rattle.search.specs.Days.{matchingDays, visitedFrom, visitedDays}
@@ -28,5 +28,5 @@ starred-hold =
     (unfold inRange dayOf floorOver reduced leap monthDays lost dateExists serialOf counted lunarDay lunarDayWith fieldsInRange yearInRange
     extraMonths elapsedExtraMonths reckonedDay havingWeekday integerDay answerFrom dayOn differenceOf table meanLongitude longitudeAt longitudesAt
     longitudesOf bhuja equation signed corrected trueLongitude isEdition trueMoon karanaAfter trueSunAt trueMoonAt tithiAt nakshatraAt yogaAt karanaAt
-    panchangaOf meets weekdayMet givenArcs inArc inSome inArcs nearestStart arcsMet elementsMet askedInRange weekdaysInRange arcInRange bodyArcsInRange arcsInRange conditionsInRange conditionsMet sunInArcs nextDay
+    panchangaOf meets weekdayMet givenArcs inArc inSome inArcs nearestStart arcsMet elementsMet trueArcsMet numbersInRange weekdaysInRange arcInRange bodyArcsInRange arcsInRange trueArcsInRange elementsInRange conditionsInRange conditionsMet sunInArcs nextDay
     refusalOf filtered daysFrom matchingDays visitedFrom visitedDays resultOf in refl)

@@ -60,7 +60,9 @@ twoYears =
       tithi = notAsked;
       nakshatra = notAsked;
       yoga = notAsked;
+      karana = notAsked;
       arcs = onlyArc (record { given = true; start = 0; width = 3600 }) ∷ replicate 8 noArcs;
+      «true_arcs» = replicate 7 noArcs;
     }
 
 -- a search with room for so many days: the result, the number of matching days, the number of days examined

@@ -28,6 +28,12 @@ arcs-requires c κs = search needs
 number-requires-3 : tie.Need-number-requires-3
 number-requires-3 c κs = search needs
 
+asked-requires-4 : tie.Need-asked-requires-4
+asked-requires-4 c κs = search needs
+
+true-arcs-requires : tie.Need-true-arcs-requires
+true-arcs-requires c κs = search needs
+
 returns : tie.Need-returns
 unfolding queryFrom
 returns c = cc
@@ -44,4 +50,6 @@ query-of-spec =
     asked-requires-3
     arcs-requires
     number-requires-3
+    asked-requires-4
+    true-arcs-requires
     returns)

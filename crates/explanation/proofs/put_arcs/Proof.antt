@@ -1,15 +1,8 @@
 -- `put_arcs` meets its contract: what is put one after another is put at once. Assumes nothing.
-use Rattle.words.specs.Words.{pieces, isSeparator, inFront}
 use Rattle.explanation.proofs.Making.{arcs-made}
 use borrow.Author.Needs.{needs}
 use Rattle.explanation.proofs.put_arcs.Statement.{statement}
 use Rattle.explanation.proofs.put_arcs.Tie as tie
-
-slice-aggregate-name-at : tie.Need-slice-aggregate-name-at
-slice-aggregate-name-at c = search needs
-
-name-at-requires : tie.Need-name-at-requires
-name-at-requires c κs = search needs
 
 text-requires : tie.Need-text-requires
 text-requires c κs = search needs
@@ -36,18 +29,14 @@ put-angle-requires : tie.Need-put-angle-requires
 put-angle-requires c κs = search needs
 
 returns : tie.Need-returns
-unfolding pieces isSeparator inFront
 returns c =
-    let a = c .before .before .before .before .before .before .before .before .before .before .args in
     rw (c .put-angle .ensures, c .before .text3 .ensures, c .before .before .before .put-arc2 .ensures, c .before .before .before .before .put-arc .ensures, c .before .before .before .before .before .text2 .ensures, c .before .before .before .before .before .before .before .text .ensures)
-    (arcs-made _ (a .body) (a .asked) (a .found) (c .before .before .before .before .before .before .before .before .name-at .ensures))
+    (arcs-made _ _ _ _)
 
 pub put-arcs-spec : {M : Type 1} → statement M
 put-arcs-spec =
     tie.close
     (tie.spec
-    slice-aggregate-name-at
-    name-at-requires
     text-requires
     slice-aggregate-text
     text-requires-2

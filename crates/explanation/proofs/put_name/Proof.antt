@@ -1,7 +1,8 @@
 -- `put_name` meets its contract: a weekday that the set has not puts nothing. Assumes nothing.
 use mathlib.Core.Path.{sym, _∙_}
 use Rattle.words.specs.Words.{pieces, isSeparator, inFront}
-use Rattle.explanation.proofs.Making.{name-made, name-left-out}
+use Rattle.explanation.specs.Explanations.{nameIn}
+use Rattle.explanation.proofs.Making.{name-made, word-left-out}
 use borrow.Author.Needs.{needs}
 use Rattle.explanation.proofs.put_name.Statement.{statement}
 use Rattle.explanation.proofs.put_name.Tie as tie
@@ -34,7 +35,8 @@ returns c =
     (name-made _ _ _ (sym (c .before .before .before .before .before .set-has .ensures) ∙ c .before .before .before .before .if1 .taken) (c .before .before .name-at .ensures))
 
 returns-2 : tie.Need-returns-2
-returns-2 c = c .text2 .ensures ∙ name-left-out _ _ _ (sym (c .before .before .before .set-has .ensures) ∙ c .before .before .if1 .left)
+unfolding nameIn
+returns-2 c = c .text2 .ensures ∙ word-left-out _ _ (sym (c .before .before .before .set-has .ensures) ∙ c .before .before .if1 .left)
 
 pub put-name-spec : {M : Type 1} → statement M
 put-name-spec =

@@ -13,8 +13,8 @@ slice-aggregate-text c = search needs
 text-requires-2 : tie.Need-text-requires-2
 text-requires-2 c κs = search needs
 
-number-requires : tie.Need-number-requires
-number-requires c κs = search needs
+put-set-requires : tie.Need-put-set-requires
+put-set-requires c κs = search needs
 
 slice-aggregate-text-2 : tie.Need-slice-aggregate-text-2
 slice-aggregate-text-2 c = search needs
@@ -22,11 +22,11 @@ slice-aggregate-text-2 c = search needs
 text-requires-3 : tie.Need-text-requires-3
 text-requires-3 c κs = search needs
 
-number-requires-2 : tie.Need-number-requires-2
-number-requires-2 c κs = search needs
+number-requires : tie.Need-number-requires
+number-requires c κs = search needs
 
 returns : tie.Need-returns
-returns c = rw (c .number2 .ensures, c .before .text3 .ensures, c .before .before .before .number .ensures, c .before .before .before .before .text2 .ensures, c .before .before .before .before .before .before .text .ensures) (numbers-made _ _ _ _)
+returns c = rw (c .number .ensures, c .before .text3 .ensures, c .before .before .before .put-set .ensures, c .before .before .before .before .text2 .ensures, c .before .before .before .before .before .before .text .ensures) (numbers-made _ _ _ _)
 
 pub put-numbers-spec : {M : Type 1} → statement M
 put-numbers-spec =
@@ -35,8 +35,8 @@ put-numbers-spec =
     text-requires
     slice-aggregate-text
     text-requires-2
-    number-requires
+    put-set-requires
     slice-aggregate-text-2
     text-requires-3
-    number-requires-2
+    number-requires
     returns)

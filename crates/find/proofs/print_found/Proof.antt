@@ -1,23 +1,27 @@
 -- `print_found` meets its contract: the heading, and behind it the lines of the whole span as one part (Parting), or
 -- those of the parts. Assumes nothing.
-use mathlib.Core.Path.{sym, _∙_}
 use mathlib.Core.Bool.{false≢true}
+use mathlib.Core.Path.{sym, _∙_}
 use native.Mathlib.Omega.{arith}
-use Rattle.find.proofs.Listed.{count, visits}
-use Rattle.find.proofs.Parting.{whole-next, whole-printed}
-use borrow.Author.Tests.{not-true}
 use borrow.Author.Needs.{needs}
+use borrow.Author.Tests.{not-true}
+use Rattle.find.proofs.Listed.{count, visits, by-first}
+use Rattle.find.proofs.Parting.{whole-next, whole-printed}
 use Rattle.find.proofs.print_found.Statement.{statement}
 use Rattle.find.proofs.print_found.Tie as tie
 
-search-requires : tie.Need-search-requires
-search-requires c κs = search needs
+with-sun-arcs-requires : tie.Need-with-sun-arcs-requires
+with-sun-arcs-requires c κs = search needs
+
+list-first-requires : tie.Need-list-first-requires
+list-first-requires c κs = search needs
 
 print-heading-requires : tie.Need-print-heading-requires
 print-heading-requires c κs =
     let searched = c .before .before .before in
-    let start = searched .before .before .before .before in
-    ((start .pre .0, start .pre .2), (count _ (start .pre .0) _ _ _ (searched .search .ensures), visits _ (start .pre .0) _ _ _ (searched .search .ensures)))
+    let start = searched .before .before .before .before .before in
+    let told = rw (searched .before .before .with-sun-arcs .ensures) at (searched .list-first .ensures .0) in
+    ((start .pre .0, start .pre .2), (count _ (start .pre .0) _ told, visits _ (start .pre .0) _ told))
 
 same-length : tie.Need-same-length
 same-length c = search needs
@@ -44,8 +48,11 @@ print-listed-requires : tie.Need-print-listed-requires
 print-listed-requires c κs =
     let headed = c .before .before .before .before .before .before .before .before in
     let searched = headed .before .before .before .before in
-    let start = searched .before .before .before .before in
-    (start .pre .0, whole-next _ (start .pre .0) _ (headed .print-heading .ensures) _ _ _ (searched .search .ensures) (c .before .before .if2 .left) _ (omega (arith, start .pre .2, headed .print-heading .kept .1 .1 .0)))
+    let start = searched .before .before .before .before .before in
+    let told = rw (searched .before .before .with-sun-arcs .ensures) at (searched .list-first .ensures .0) in
+    let put = rw (searched .before .before .with-sun-arcs .ensures) at (searched .list-first .ensures .1) in
+    let filled = by-first _ (start .pre .0) _ told _ _ put (omega (arith, c .before .before .if2 .left, start .pre .1)) in
+    (start .pre .0, whole-next _ (start .pre .0) _ (headed .print-heading .ensures) _ _ _ filled _ (omega (arith, start .pre .2, headed .print-heading .kept .1 .1 .0)))
 
 same-length-5 : tie.Need-same-length-5
 same-length-5 c = search needs
@@ -58,14 +65,18 @@ returns-3 c =
     let printed = c .before .before in
     let headed = printed .before .before .before .before .before .before .before .before .before in
     let searched = headed .before .before .before .before in
-    let start = searched .before .before .before .before in
-    λ e. whole-printed _ (start .pre .0) _ (headed .print-heading .ensures) _ _ _ (searched .search .ensures) (printed .before .before .before .if2 .left) _ (printed .print-listed .ensures e)
+    let start = searched .before .before .before .before .before in
+    let told = rw (searched .before .before .with-sun-arcs .ensures) at (searched .list-first .ensures .0) in
+    let put = rw (searched .before .before .with-sun-arcs .ensures) at (searched .list-first .ensures .1) in
+    let filled = by-first _ (start .pre .0) _ told _ _ put (omega (arith, printed .before .before .before .if2 .left, start .pre .1)) in
+    λ e. whole-printed _ (start .pre .0) _ (headed .print-heading .ensures) _ _ _ filled _ (printed .print-listed .ensures e)
 
 pub print-found-spec : {M : Type 1} → statement M
 print-found-spec =
     tie.close
     (tie.spec
-    search-requires
+    with-sun-arcs-requires
+    list-first-requires
     print-heading-requires
     same-length
     same-length-2

@@ -1,8 +1,8 @@
 -- `read_and_find` is safe and ends: an accepted page's query is not refused, and the number of a line at fault fits.
 -- Assumes nothing.
 use native.Mathlib.Omega.{arith}
-use Rattle.find.proofs.Pages.{accepted-query, small-number}
 use borrow.Author.Needs.{needs}
+use Rattle.find.proofs.Pages.{accepted-query, small-number}
 use Rattle.find.proofs.read_and_find.Statement.{statement}
 use Rattle.find.proofs.read_and_find.Tie as tie
 
@@ -48,8 +48,17 @@ same-length-2 c = search needs
 returns-2 : tie.Need-returns-2
 returns-2 c = search needs
 
+slice-reshare-prefix-say-remarks : tie.Need-slice-reshare-prefix-say-remarks
+slice-reshare-prefix-say-remarks c = search needs
+
+slice-aggregate-say-remarks : tie.Need-slice-aggregate-say-remarks
+slice-aggregate-say-remarks c = search needs
+
+say-remarks-requires : tie.Need-say-remarks-requires
+say-remarks-requires c κs = search needs
+
 find-days-requires : tie.Need-find-days-requires
-find-days-requires c κs = accepted-query _ _ (c .before .before .read .ensures) (c .if2 .left)
+find-days-requires c κs = accepted-query _ _ (c .before .before .before .before .read .ensures) (c .before .before .if2 .left)
 
 same-length-3 : tie.Need-same-length-3
 same-length-3 c = search needs
@@ -74,6 +83,9 @@ read-and-find-spec =
     refuse-requires
     same-length-2
     returns-2
+    slice-reshare-prefix-say-remarks
+    slice-aggregate-say-remarks
+    say-remarks-requires
     find-days-requires
     same-length-3
     returns-3)

@@ -1,8 +1,13 @@
 -- `most_values` meets its contract: the tests are the meaning's. Assumes nothing.
+use mathlib.Core.Path.{sym, _∙_}
+use borrow.Author.Needs.{needs}
 use borrow.Author.Tests.{eq-eqb, ne-eqb, lt-ltb, le-ltb}
 use Rattle.page.specs.Page.{mostValues}
 use Rattle.page.proofs.most_values.Statement.{statement}
 use Rattle.page.proofs.most_values.Tie as tie
+
+is-element-requires : tie.Need-is-element-requires
+is-element-requires c κs = search needs
 
 returns : tie.Need-returns
 unfolding mostValues
@@ -10,11 +15,15 @@ returns c = rw (eq-eqb _ _ (c .if1 .taken))
 
 returns-2 : tie.Need-returns-2
 unfolding mostValues
-returns-2 c = rw (ne-eqb _ _ (c .before .if1 .left), lt-ltb _ _ (c .if2 .taken))
+returns-2 c = rw (ne-eqb _ _ (c .before .before .if1 .left), sym (c .before .is-element .ensures) ∙ c .if2 .taken)
 
 returns-3 : tie.Need-returns-3
 unfolding mostValues
-returns-3 c = rw (ne-eqb _ _ (c .before .if1 .left), le-ltb _ _ (c .if2 .left))
+returns-3 c = rw (ne-eqb _ _ (c .before .before .before .if1 .left), sym (c .before .before .is-element .ensures) ∙ c .before .if2 .left, lt-ltb _ _ (c .if3 .taken))
+
+returns-4 : tie.Need-returns-4
+unfolding mostValues
+returns-4 c = rw (ne-eqb _ _ (c .before .before .before .if1 .left), sym (c .before .before .is-element .ensures) ∙ c .before .if2 .left, le-ltb _ _ (c .if3 .left))
 
 pub most-values-spec : {M : Type 1} → statement M
-most-values-spec = tie.close (tie.spec returns returns-2 returns-3)
+most-values-spec = tie.close (tie.spec is-element-requires returns returns-2 returns-3 returns-4)

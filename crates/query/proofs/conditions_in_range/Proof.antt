@@ -13,33 +13,26 @@ returns : tie.Need-returns
 unfolding conditionsInRange
 returns c = rw (sym (c .before .in-range .ensures) ∙ not-true _ (c .if1 .taken))
 
-in-range-requires-2 : tie.Need-in-range-requires-2
-in-range-requires-2 c κs = search needs
+elements-in-range-requires : tie.Need-elements-in-range-requires
+elements-in-range-requires c κs = search needs
 
 returns-2 : tie.Need-returns-2
 unfolding conditionsInRange
-returns-2 c = rw (sym (c .before .before .before .before .in-range .ensures) ∙ not-false _ (c .before .before .before .if1 .left), sym (c .before .in-range2 .ensures) ∙ not-true _ (c .if2 .taken))
-
-in-range-requires-3 : tie.Need-in-range-requires-3
-in-range-requires-3 c κs = search needs
-
-returns-3 : tie.Need-returns-3
-unfolding conditionsInRange
-returns-3 c = rw (sym (c .before .before .before .before .before .before .before .in-range .ensures) ∙ not-false _ (c .before .before .before .before .before .before .if1 .left), sym (c .before .before .before .before .in-range2 .ensures) ∙ not-false _ (c .before .before .before .if2 .left), sym (c .before .in-range3 .ensures) ∙ not-true _ (c .if3 .taken))
-
-in-range-requires-4 : tie.Need-in-range-requires-4
-in-range-requires-4 c κs = search needs
-
-returns-4 : tie.Need-returns-4
-unfolding conditionsInRange
-returns-4 c = rw (sym (c .before .before .before .before .before .before .before .before .before .before .in-range .ensures) ∙ not-false _ (c .before .before .before .before .before .before .before .before .before .if1 .left), sym (c .before .before .before .before .before .before .before .in-range2 .ensures) ∙ not-false _ (c .before .before .before .before .before .before .if2 .left), sym (c .before .before .before .before .in-range3 .ensures) ∙ not-false _ (c .before .before .before .if3 .left), sym (c .before .in-range4 .ensures) ∙ not-true _ (c .if4 .taken))
+returns-2 c = rw (sym (c .before .before .before .in-range .ensures) ∙ not-false _ (c .before .before .if1 .left), sym (c .before .elements-in-range .ensures) ∙ not-true _ (c .if2 .taken))
 
 arcs-in-range-requires : tie.Need-arcs-in-range-requires
 arcs-in-range-requires c κs = search needs
 
-returns-5 : tie.Need-returns-5
+returns-3 : tie.Need-returns-3
 unfolding conditionsInRange
-returns-5 c = rw (sym (c .before .before .before .before .before .before .before .before .before .before .before .before .in-range .ensures) ∙ not-false _ (c .before .before .before .before .before .before .before .before .before .before .before .if1 .left), sym (c .before .before .before .before .before .before .before .before .before .in-range2 .ensures) ∙ not-false _ (c .before .before .before .before .before .before .before .before .if2 .left), sym (c .before .before .before .before .before .before .in-range3 .ensures) ∙ not-false _ (c .before .before .before .before .before .if3 .left), sym (c .before .before .before .in-range4 .ensures) ∙ not-false _ (c .before .before .if4 .left), c .arcs-in-range .ensures)
+returns-3 c = rw (sym (c .before .before .before .before .before .before .in-range .ensures) ∙ not-false _ (c .before .before .before .before .before .if1 .left), sym (c .before .before .before .before .elements-in-range .ensures) ∙ not-false _ (c .before .before .before .if2 .left), sym (c .before .arcs-in-range .ensures) ∙ not-true _ (c .if3 .taken))
+
+true-arcs-in-range-requires : tie.Need-true-arcs-in-range-requires
+true-arcs-in-range-requires c κs = search needs
+
+returns-4 : tie.Need-returns-4
+unfolding conditionsInRange
+returns-4 c = rw (sym (c .before .before .before .before .before .before .before .before .in-range .ensures) ∙ not-false _ (c .before .before .before .before .before .before .before .if1 .left), sym (c .before .before .before .before .before .before .elements-in-range .ensures) ∙ not-false _ (c .before .before .before .before .before .if2 .left), sym (c .before .before .before .arcs-in-range .ensures) ∙ not-false _ (c .before .before .if3 .left), c .true-arcs-in-range .ensures)
 
 pub conditions-in-range-spec : {M : Type 1} → statement M
 conditions-in-range-spec =
@@ -47,11 +40,9 @@ conditions-in-range-spec =
     (tie.spec
     in-range-requires
     returns
-    in-range-requires-2
+    elements-in-range-requires
     returns-2
-    in-range-requires-3
-    returns-3
-    in-range-requires-4
-    returns-4
     arcs-in-range-requires
-    returns-5)
+    returns-3
+    true-arcs-in-range-requires
+    returns-4)

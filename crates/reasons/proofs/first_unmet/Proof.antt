@@ -35,6 +35,9 @@ after-tithi c = c .before .before .before
 abbrev after-nakshatra : tie.Else6 → tie.Else5
 after-nakshatra c = c .before .before .before
 
+abbrev after-yoga : tie.Else7 → tie.Else6
+after-yoga c = c .before .before .before
+
 returns : tie.Need-returns
 unfolding causeOf conditionsOn
 returns c = here _ _ (lt-leb _ _ (c .if1 .taken))
@@ -119,14 +122,30 @@ yoga-met c =
     let at = c .before .before in
     tested-next 6 _ _ (rw (known (after-weekday (after-tithi (at .before))) .pair) at (at .test-yoga .ensures)) (c .if6 .left) ∙ nakshatra-met (at .before)
 
-unmet-arcs-requires : tie.Need-unmet-arcs-requires
-unmet-arcs-requires c κs = known (after-weekday (after-tithi (after-nakshatra (c .before)))) .range
+test-karana-requires : tie.Need-test-karana-requires
+test-karana-requires c κs = (known (after-weekday (after-tithi (after-nakshatra c))) .range, edition (after-weekday (after-tithi (after-nakshatra c))))
 
 returns-7 : tie.Need-returns-7
-unfolding conditionsOn
+unfolding causeOf conditionsOn
 returns-7 c =
-    let last = c .before .before in
-    (rw (known (after-weekday (after-tithi (after-nakshatra last))) .pair) at (c .unmet-arcs .ensures)) ∙ yoga-met last
+    let at = c .before .before in
+    tested-here 16 _ _ (rw (known (after-weekday (after-tithi (after-nakshatra (at .before)))) .pair) at (at .test-karana .ensures)) (c .if7 .taken) ∙ yoga-met (at .before)
+
+-- behind the yoga comes the karana, and behind it the longitudes
+karana-next : (c : tie.Else7) → from (start (in-span (after-weekday (after-tithi (after-nakshatra (after-yoga c)))))) 7 ≡ from (start (in-span (after-weekday (after-tithi (after-nakshatra (after-yoga c)))))) 6
+unfolding conditionsOn
+karana-next c =
+    let at = c .before .before in
+    tested-next 16 _ _ (rw (known (after-weekday (after-tithi (after-nakshatra (at .before)))) .pair) at (at .test-karana .ensures)) (c .if7 .left)
+
+unmet-arcs-requires : tie.Need-unmet-arcs-requires
+unmet-arcs-requires c κs = let at = after-weekday (after-tithi (after-nakshatra (after-yoga c))) in (known at .range, edition at)
+
+returns-8 : tie.Need-returns-8
+unfolding conditionsOn
+returns-8 c =
+    let last = c .before in
+    (rw (known (after-weekday (after-tithi (after-nakshatra (after-yoga last)))) .pair) at (c .unmet-arcs .ensures)) ∙ karana-next last ∙ yoga-met (after-yoga last)
 
 pub first-unmet-spec : {M : Type 1} → statement M
 first-unmet-spec =
@@ -143,5 +162,7 @@ first-unmet-spec =
     returns-5
     test-yoga-requires
     returns-6
+    test-karana-requires
+    returns-7
     unmet-arcs-requires
-    returns-7)
+    returns-8)

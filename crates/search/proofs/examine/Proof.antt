@@ -31,24 +31,29 @@ returns-3 c = c .refused3 .ensures ∙ refused-query _ _ _ (c .before .before .b
 over-day-requires : tie.Need-over-day-requires
 over-day-requires c κs = search needs
 
+more-asked-requires : tie.Need-more-asked-requires
+more-asked-requires c κs = search needs
+
 first-visit-requires : tie.Need-first-visit-requires
 first-visit-requires c κs = search needs
 
 examine-day-requires : tie.Need-examine-day-requires
-examine-day-requires c κs = alone-due _ _ _ _ (sym (c .before .before .before .before .before .refusal .ensures) ∙ c .before .before .if3 .left) (c .before .before .before .if2 .left) (c .before .over-day .ensures) (c .first-visit .ensures)
+examine-day-requires c κs =
+    let due = alone-due _ _ _ _ (sym (c .before .before .before .before .before .before .refusal .ensures) ∙ c .before .before .before .if3 .left) (c .before .before .before .before .if2 .left) (c .before .before .over-day .ensures) (c .first-visit .ensures) in
+    (due .0, (c .before .more-asked .ensures, due .1))
 
 in-span-requires : tie.Need-in-span-requires
 in-span-requires c κs = search needs
 
 returns-4 : tie.Need-returns-4
 returns-4 c =
-    alone-seen _ _ _ _ (sym (c .before .before .before .before .before .before .before .before .refusal .ensures) ∙ c .before .before .before .before .before .if3 .left) (c .before .before .before .before .before .before .if2 .left) (c .before .before .before .before .over-day .ensures) (c .before .before .before .first-visit .ensures) _ (c .before .before .examine-day .ensures)
-    ∙ sym (examined-at _ _ (sym (c .before .before .before .before .before .before .before .before .refusal .ensures) ∙ c .before .before .before .before .before .if3 .left) (sym (c .before .in-span .ensures) ∙ c .if4 .taken))
+    alone-seen _ _ _ _ (sym (c .before .before .before .before .before .before .before .before .before .refusal .ensures) ∙ c .before .before .before .before .before .before .if3 .left) (c .before .before .before .before .before .before .before .if2 .left) (c .before .before .before .before .before .over-day .ensures) (c .before .before .before .first-visit .ensures) _ (c .before .before .examine-day .ensures)
+    ∙ sym (examined-at _ _ (sym (c .before .before .before .before .before .before .before .before .before .refusal .ensures) ∙ c .before .before .before .before .before .before .if3 .left) (sym (c .before .in-span .ensures) ∙ c .if4 .taken))
 
 returns-5 : tie.Need-returns-5
 returns-5 c =
-    rw (alone-seen _ _ _ _ (sym (c .before .before .before .before .before .before .before .before .refusal .ensures) ∙ c .before .before .before .before .before .if3 .left) (c .before .before .before .before .before .before .if2 .left) (c .before .before .before .before .over-day .ensures) (c .before .before .before .first-visit .ensures) _ (c .before .before .examine-day .ensures))
-    (outside-span _ _ (sym (c .before .before .before .before .before .before .before .before .refusal .ensures) ∙ c .before .before .before .before .before .if3 .left) (c .before .before .before .before .before .before .if2 .left) (sym (c .before .in-span .ensures) ∙ c .if4 .left))
+    rw (alone-seen _ _ _ _ (sym (c .before .before .before .before .before .before .before .before .before .refusal .ensures) ∙ c .before .before .before .before .before .before .if3 .left) (c .before .before .before .before .before .before .before .if2 .left) (c .before .before .before .before .before .over-day .ensures) (c .before .before .before .first-visit .ensures) _ (c .before .before .examine-day .ensures))
+    (outside-span _ _ (sym (c .before .before .before .before .before .before .before .before .before .refusal .ensures) ∙ c .before .before .before .before .before .before .if3 .left) (c .before .before .before .before .before .before .before .if2 .left) (sym (c .before .in-span .ensures) ∙ c .if4 .left))
 
 pub examine-spec : {M : Type 1} → statement M
 examine-spec =
@@ -62,6 +67,7 @@ examine-spec =
     refused-requires-3
     returns-3
     over-day-requires
+    more-asked-requires
     first-visit-requires
     examine-day-requires
     in-span-requires

@@ -5,13 +5,13 @@ use borrow.Author.Tests.{eq-eqb, ne-eqb}
 use mathlib.Core.Path.{_≡_, refl, sym, ap, _∙_}
 use Rattle.reasons.specs.Reasons.{Numbers, numbersOf}
 use Rattle.reasons.proofs.Laws.{condition-small}
-use Rattle.bridge.specs.Answers.{bridgeWhy}
+use Rattle.bridge.specs.Answers.{sixOf, bridgeWhy}
 use borrow.Author.Needs.{needs}
 use Rattle.bridge.proofs.whys.answer.Statement.{statement}
 use Rattle.bridge.proofs.whys.answer.Tie as tie
 
 returns : tie.Need-returns
-unfolding bridgeWhy
+unfolding bridgeWhy sixOf
 returns c = rw (ne-eqb _ _ (c .if1 .taken)) (record { result = refl; edition = refl; cause = record { condition = refl; asked = refl; value = refl } })
 
 query-of-requires : tie.Need-query-of-requires
@@ -37,7 +37,7 @@ cause-of-requires c κs =
     omega (arith, ap (λ (x : Numbers). x .cause .condition) e, condition-small (c .before .before .before .before .query-of .result) (c .before .before .before .before .before .before .before .args .day))
 
 returns-2 : tie.Need-returns-2
-unfolding numbersOf
+unfolding numbersOf sixOf
 returns-2 c = rw (← told (c .before .before .before), c .before .refusal .given .1) (record { result = refl; edition = refl; cause = record { condition = refl; asked = refl; value = refl } })
 
 returns-3 : tie.Need-returns-3

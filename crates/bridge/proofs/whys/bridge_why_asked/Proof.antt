@@ -4,7 +4,8 @@ use mathlib.Core.Path.{_≡_, sym, ap}
 use native.Mathlib.Omega.{arith}
 use lib.ListN.{getD, List·getD-eq-default}
 use Prim.Native.Nat.{ℕ, _≤_}
-use Rattle.bridge.specs.Answers.{sixOf, bridgeWhy}
+use Rattle.reasons.specs.Conditions.{Wanted, nothing, bound, anyOf, meanArcs, trueArcs}
+use Rattle.bridge.specs.Answers.{oneNumber, bothNumbers, sixOf, bridgeWhy}
 use borrow.Author.Needs.{needs}
 use Rattle.bridge.proofs.whys.bridge_why_asked.Statement.{statement}
 use Rattle.bridge.proofs.whys.bridge_why_asked.Tie as tie
@@ -22,8 +23,13 @@ returns : tie.Need-returns
 returns c = ap (λ (asked : List ℕ). getD asked (c .before .before .before .before .args .index) 0) (c .before .before .answer .ensures .cause .asked)
 
 -- behind the last there is nothing
-beyond : (asked : List ℕ) (n : ℕ) → 6 ≤ n → getD (sixOf asked) n 0 ≡ 0
-beyond asked n h = List·getD-eq-default (sixOf asked) 0 {n = n} h
+beyond : (asked : Wanted) (n : ℕ) → 6 ≤ n → getD (sixOf asked) n 0 ≡ 0
+unfolding sixOf
+beyond nothing n h = List·getD-eq-default (oneNumber 0) 0 {n = n} h
+beyond (bound day) n h = List·getD-eq-default (oneNumber day) 0 {n = n} h
+beyond (anyOf set) n h = List·getD-eq-default (oneNumber set) 0 {n = n} h
+beyond (meanArcs arcs) n h = List·getD-eq-default (bothNumbers arcs) 0 {n = n} h
+beyond (trueArcs arcs) n h = List·getD-eq-default (bothNumbers arcs) 0 {n = n} h
 
 returns-2 : tie.Need-returns-2
 returns-2 c = let a = c .before .before .before .before .args in sym (beyond (bridgeWhy (a .query .now) (a .day) .cause .asked) (a .index) (omega arith))

@@ -12,10 +12,10 @@ has-requires-2 : tie.Need-has-requires-2
 has-requires-2 c κs = search needs
 
 returns : tie.Need-returns
-returns c = c .if1 .taken ∙ first-has _ _ (sym (c .before .before .has .ensures) ∙ c .if1 .taken)
+returns c = first-has _ _ (sym (c .before .has .ensures) ∙ c .if1 .taken)
 
 returns-2 : tie.Need-returns-2
-returns-2 c = c .before .has2 .ensures ∙ second-has _ _ (sym (c .before .before .has .ensures) ∙ c .if1 .left)
+returns-2 c = c .has2 .ensures ∙ second-has _ _ (sym (c .before .before .has .ensures) ∙ c .before .if1 .left)
 
 pub have-spec : {M : Type 1} → statement M
-have-spec = tie.close (tie.spec has-requires has-requires-2 returns returns-2)
+have-spec = tie.close (tie.spec has-requires returns has-requires-2 returns-2)

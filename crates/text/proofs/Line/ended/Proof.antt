@@ -1,5 +1,4 @@
 -- `text::Line::ended` meets its contract: whether the newline has room decides. Assumes nothing.
-use mathlib.Core.Path.{sym, _∙_}
 use borrow.Author.Needs.{needs}
 use borrow.Author.Tests.{lt-ltb, le-ltb}
 use Rattle.text.specs.Lines.{ended}

@@ -1,7 +1,7 @@
 -- `text::Line::put` meets its contract: before byte i of the contents is copied, the first i of them are. Assumes
 -- nothing.
 use Prim.Native.Nat.{_-_, _≤_}
-use mathlib.Core.Path.{_≡_, refl, sym}
+use mathlib.Core.Path.{_≡_, refl}
 use native.Mathlib.Omega.{arith}
 use native.Mathlib.Numerals.{add-one}
 use lib.ListN.{length, length-set}
@@ -20,7 +20,7 @@ abbrev μ-loop : tie.MeasureT-loop
 at-most-requires : tie.Need-at-most-requires Inv-loop μ-loop
 at-most-requires c κs = search needs
 
-size : (c : tie.After-at-most Inv-loop μ-loop) → length (c .before .before .before .args .self .bytes) ≡ 128
+size : (c : tie.After-at-most Inv-loop μ-loop) → length (c .before .before .before .args .self .bytes) ≡ 160
 size c = search needs
 
 returns : tie.Need-returns Inv-loop μ-loop

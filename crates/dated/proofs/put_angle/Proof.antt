@@ -1,10 +1,10 @@
 -- `put_angle` meets its contract: what is put one after another is put at once. Assumes nothing.
 use mathlib.Core.List.{append-assoc}
 use Rattle.text.proofs.Lines.{with-byte-is, with-bytes-append}
-use Rattle.explanation.specs.Explanations.{angleBytes}
+use Rattle.dated.specs.Dated.{angleBytes}
 use borrow.Author.Needs.{needs}
-use Rattle.explanation.proofs.put_angle.Statement.{statement}
-use Rattle.explanation.proofs.put_angle.Tie as tie
+use Rattle.dated.proofs.put_angle.Statement.{statement}
+use Rattle.dated.proofs.put_angle.Tie as tie
 
 number-requires : tie.Need-number-requires
 number-requires c κs = search needs

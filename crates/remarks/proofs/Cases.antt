@@ -1,0 +1,93 @@
+-- What is said, case by case: of an arc, of a span, of a line by its words, and whether a line asks for something.
+-- Assumes nothing.
+use Prim.Native.Nat.{ℕ, _<_}
+use mathlib.Core.Path.{_≡_, ap, ap₂, sym, _∙_}
+use mathlib.Core.Bool.{true, false, not, _&&_, and-eq-true-iff}
+use mathlib.Core.List.{List, _++_}
+use borrow.Author.Tests.{ltb-true, ne-eqb}
+use lib.Dec.{eqb, ltb}
+use lib.ListN.{length}
+use Rattle.days.specs.declared.NumberAnswer.{NumberAnswer}
+use Rattle.page.specs.Names.{keywords}
+use Rattle.page.specs.Page.{spanKeyword, editionKeyword, keywordCount}
+use Rattle.text.specs.declared.Line.{Line}
+use Rattle.text.specs.Decimal.{numberRead}
+use Rattle.text.specs.Lines.{emptyLine, contents, Holds}
+use Rattle.text.proofs.Holding.{nothing-held, holds-length}
+use Rattle.values.specs.Values.{angleRead}
+use Rattle.words.specs.Words.{hash, upTo, firstWord, afterWord, afterWords, placeIn}
+use Rattle.remarks.specs.Remarks.{secondsText, widthText, daysText, likelyDegrees, likelyEnd, likelyYear, arcRemark, spanRemark, hasArcs, firstRemark, secondRemark, lineRemarks, asks}
+
+module _ (n : ℕ) (name start width : List ℕ) (a b : NumberAnswer) (ea : a ≡ numberRead start) (eb : b ≡ numberRead width) {l : Line} where
+  pub arc-seconds : likelyDegrees a b ≡ true → Holds l (secondsText n name (a .number) (b .number)) → Holds l (arcRemark n name start width)
+  unfolding arcRemark
+  arc-seconds t h = rw (← ea, ← eb, t) h
+
+  module _ (no-degrees : likelyDegrees a b ≡ false) (x y : NumberAnswer) (ex : x ≡ angleRead start) (ey : y ≡ angleRead width) where
+    pub arc-width : likelyEnd (x .number) (y .number) ≡ true → Holds l (widthText n name (x .number) (y .number)) → Holds l (arcRemark n name start width)
+    unfolding arcRemark
+    arc-width t h = rw (← ea, ← eb, no-degrees, ← ex, ← ey, t) h
+
+    pub arc-none : likelyEnd (x .number) (y .number) ≡ false → l ≡ emptyLine → Holds l (arcRemark n name start width)
+    unfolding arcRemark
+    arc-none t e = rw (← ea, ← eb, no-degrees, ← ex, ← ey, t) (nothing-held l e)
+
+module _ (n : ℕ) (first last : List ℕ) (a b : NumberAnswer) (ea : a ≡ numberRead first) (eb : b ≡ numberRead last) {l : Line} where
+  pub span-first : likelyYear (a .number) ≡ false → l ≡ emptyLine → Holds l (spanRemark n first last)
+  unfolding spanRemark
+  span-first t e = rw (← ea, t) (nothing-held l e)
+
+  pub span-last : likelyYear (a .number) ≡ true → likelyYear (b .number) ≡ false → l ≡ emptyLine → Holds l (spanRemark n first last)
+  unfolding spanRemark
+  span-last t u e = rw (← ea, ← eb, t, u) (nothing-held l e)
+
+  pub span-days : likelyYear (a .number) ≡ true → likelyYear (b .number) ≡ true → Holds l (daysText n (a .number) (b .number)) → Holds l (spanRemark n first last)
+  unfolding spanRemark
+  span-days t u h = rw (← ea, ← eb, t, u) h
+
+pub arcs-keyword : (k : ℕ) → hasArcs k ≡ true → k < keywordCount
+unfolding hasArcs
+arcs-keyword k e = ltb-true k keywordCount (and-eq-true-iff (ltb k keywordCount) _ .0 e .0)
+
+-- the two lines that are made of a line's words
+abbrev pub SaidOf : ℕ → List ℕ → List ℕ → Line → Line → Type 0
+SaidOf n name values a b = Holds a (firstRemark n name values) × Holds b (secondRemark n name values)
+
+module _ (n : ℕ) (name values : List ℕ) (k : ℕ) (ek : k ≡ placeIn keywords name) {a b : Line} where
+  module _ (start others width : List ℕ) (es : start ≡ firstWord values) (eo : others ≡ afterWord values) (ew : width ≡ firstWord others) where
+    pub words-span : k ≡ spanKeyword → Holds a (spanRemark n start width) → b ≡ emptyLine → SaidOf n name values a b
+    unfolding firstRemark secondRemark hasArcs
+    words-span e h none = rw (← ek, e) ((rw (es, ew, eo) at h), nothing-held b none)
+
+    pub words-arcs :
+        (k ≡ spanKeyword → ⊥) →
+        hasArcs k ≡ true →
+        (more start2 others2 width2 : List ℕ) →
+        more ≡ afterWord others →
+        start2 ≡ firstWord more →
+        others2 ≡ afterWord more →
+        width2 ≡ firstWord others2 →
+        Holds a (arcRemark n name start width) →
+        Holds b (arcRemark n name start2 width2) →
+        SaidOf n name values a b
+    unfolding firstRemark secondRemark afterWords
+    words-arcs e t more start2 others2 width2 em es2 eo2 ew2 ha hb =
+        rw (← ek, ne-eqb k spanKeyword e, t) ((rw (es, ew, eo) at ha), (rw (es2, ew2, eo2, em, eo) at hb))
+
+  pub words-none : (k ≡ spanKeyword → ⊥) → hasArcs k ≡ false → a ≡ emptyLine → b ≡ emptyLine → SaidOf n name values a b
+  unfolding firstRemark secondRemark
+  words-none e t none none2 = rw (← ek, ne-eqb k spanKeyword e, t) (nothing-held a none, nothing-held b none2)
+
+module _ (l body name : List ℕ) (eb : body ≡ upTo hash l) (en : name ≡ firstWord body) where
+  -- they are what is said of the line
+  pub line-said : (n : ℕ) (values : List ℕ) → values ≡ afterWord body → {a b : Line} → SaidOf n name values a b → lineRemarks n l ≡ contents a ++ contents b
+  unfolding lineRemarks
+  line-said n values ev {a} {b} h = sym (ap₂ (λ (x y : List ℕ). x ++ y) (h .0 .whole) (h .1 .whole) ∙ rw (en, ev, eb))
+
+  pub asks-by : (k : ℕ) → k ≡ placeIn keywords name → asks l ≡ ltb k keywordCount && (not (eqb k spanKeyword) && not (eqb k editionKeyword))
+  unfolding asks
+  asks-by k ek = rw (ek, en, eb)
+
+-- a line's length is that of its contents
+pub contents-length : {l : Line} {bs : List ℕ} → Holds l bs → l .len ≡ length (contents l)
+contents-length h = holds-length h ∙ ap length (sym (h .whole))
