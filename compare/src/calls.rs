@@ -177,6 +177,13 @@ unsafe extern "C" {
     /// Query and list are lent for the call, as many bytes as each length says.
     pub fn bridge_search(query: *const u8, query_len: usize, list: *mut u8, list_len: usize)
         -> u32;
+    /// The first days of the list, as many as there are entries, and 0 or the query's refusal.
+    pub fn bridge_list_first(
+        query: *const u8,
+        query_len: usize,
+        list: *mut u8,
+        list_len: usize,
+    ) -> u32;
     pub fn bridge_length(query: *const u8, query_len: usize) -> u32;
     pub fn bridge_looked(query: *const u8, query_len: usize) -> u32;
 
@@ -302,7 +309,7 @@ unsafe extern "C" {
     pub fn bridge_why_result(query: *const u8, query_len: usize, day: u32) -> u32;
     pub fn bridge_why_edition(query: *const u8, query_len: usize, day: u32) -> u32;
     /// 1 before the span, 2 after it, 3 weekday, 4 tithi, 5 nakshatra, 6 yoga, 7 and the body's number
-    /// for its arcs.
+    /// for its arcs, 16 karana, 17 and the true place's number for its arcs.
     pub fn bridge_why_condition(query: *const u8, query_len: usize, day: u32) -> u32;
     /// The values asked from number 0 on, one or, of a body, six: of each of its arcs "given" (0 or 1),
     /// start and width. Behind the last one come zeros.

@@ -51,6 +51,9 @@ fn main() {
     checks.part("sets of weekdays and two arcs", |checks| {
         runs::smudged::run(checks, &almanac)
     });
+    checks.part("sets of limbs and true places", |checks| {
+        runs::half_read::run(checks, &almanac)
+    });
     checks.part("days that differ by edition", |checks| {
         runs::parted::run(checks, &almanac)
     });
@@ -85,5 +88,8 @@ fn main() {
     });
     checks.part("pages", |checks| runs::find::run(checks, &almanac));
     checks.part("days and pages", |checks| runs::why::run(checks, &almanac));
+    checks.part("remarks on pages", |checks| {
+        runs::remarks::run(checks, &almanac)
+    });
     println!("compare: {} checks, 0 differences", checks.total());
 }

@@ -7,7 +7,7 @@ use super::days::{next_weekday, Pair, MONDAY};
 use super::edition::Edition;
 use super::longitudes::longitudes;
 use super::panchanga::Elements;
-use super::planets::true_places;
+use super::planets::{true_places, TRUE_MARS, TRUE_MOON, TRUE_SUN};
 use super::refusal::{Answer, NO_SUCH_DATE, OUT_OF_RANGE};
 
 /// All that the rules give a day.
@@ -36,6 +36,24 @@ impl Day {
             planets: true_places(&mean),
             first: Elements::of(&mean, Edition::First),
             second: Elements::of(&mean, Edition::Second),
+        }
+    }
+
+    /// Weekday, tithi, nakshatra, yoga, karana.
+    pub fn numbers(&self, edition: Edition) -> [u32; 5] {
+        let [tithi, nakshatra, yoga, karana] = self.elements(edition).limbs();
+        [self.weekday, tithi, nakshatra, yoga, karana]
+    }
+
+    /// The nine mean places, and from 9 on P1's "true longitudes of Sun, Moon, Mars, Mercury, Jupiter,
+    /// Venus and Saturn, in this order": "the Moon's is that of the query's edition, the planets' those
+    /// of L3".
+    pub fn place(&self, body: usize, edition: Edition) -> u32 {
+        match body {
+            TRUE_SUN => self.elements(edition).sun,
+            TRUE_MOON => self.elements(edition).moon,
+            TRUE_MARS.. => self.planets[body - TRUE_MARS],
+            _ => self.mean[body],
         }
     }
 

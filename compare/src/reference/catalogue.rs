@@ -32,10 +32,15 @@ pub fn heading(edition: Edition, length: u32, looked: u32) -> String {
     format!("found {length} looked {looked}{named}\n{HEADING}\n")
 }
 
+/// The date of a day of the table.
+pub fn dated(almanac: &Almanac, number: u32) -> String {
+    let Date { year, month, day } = almanac.days()[number as usize].date;
+    format!("{year}-{month}-{day}")
+}
+
 /// A day of the table by its number and its date.
 pub fn named(almanac: &Almanac, number: u32) -> String {
-    let Date { year, month, day } = almanac.days()[number as usize].date;
-    format!("{number} {year}-{month}-{day}")
+    format!("{number} {}", dated(almanac, number))
 }
 
 /// The line of a day; 2 for a number that is no day.

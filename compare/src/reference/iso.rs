@@ -164,6 +164,6 @@ impl IsoDates {
                 Err(refusal) => return Printed::at_fault((read.fault(refusal), number)),
             }
         }
-        Printed::accepted(output)
+        Printed::accepted(output, String::new())
     }
 }

@@ -22,6 +22,11 @@ pub fn written_from(entry: usize, days: &[u32], before: &[u8]) -> Vec<u8> {
     after
 }
 
+/// A list of bytes after the first of these days were written into it, as many as it has entries (P1).
+pub fn first_after(days: &[u32], before: &[u8]) -> Vec<u8> {
+    written_from(0, days, before)
+}
+
 /// A list of bytes after the call: "four a day, low byte first, and a tail under four bytes is no
 /// place and stays as it was" ("What the table reckons"). "Lent memory is untouched by each refusal;
 /// on acceptance the places behind the list stay as they were" ("Refusals by number").

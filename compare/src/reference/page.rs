@@ -1,15 +1,16 @@
 //! The page that the program `find` reads, and what it prints: a reading of paper 01 in words, a
 //! condition on each line, and the edition that it names by paper 02's L8, with L9's sets of weekdays
-//! and second arcs.
+//! and second arcs and P1's sets of limbs and arcs of true places.
 //!
 //! `#` starts a comment up to the line's end; space, tab and carriage return separate words. A line
 //! without words says nothing. Another line is a word and its values, and no word may stand twice:
 //!
 //! - `span FROM TO`: day numbers or dates YEAR-MONTH-DAY; without it, all days of the table;
 //! - `edition`: a number; without it, 1;
-//! - `weekday`: one to seven, each a number or its name, none twice; `tithi`, `nakshatra`, `yoga`: a
-//!   number;
-//! - one of the nine bodies: an arc's start and width, each in seconds or as D:M:S, or two arcs'.
+//! - `weekday`: one to seven, each a number or its name, none twice;
+//! - `tithi`, `nakshatra`, `yoga`, `karana`: one to thirty numbers, none twice;
+//! - one of the nine bodies, or of the seven true places: an arc's start and width, each in seconds or
+//!   as D:M:S, or two arcs'.
 //!
 //! It is read here as text, split into lines and words, and a line is asked for its refusal by
 //! searching with what it says alone.
@@ -24,7 +25,8 @@ use super::refusal::{
     Answer, BAD_CONDITION, BAD_INPUT, LAST_BEFORE_FIRST, NO_SUCH_DATE, NO_SUCH_EDITION,
     OUT_OF_RANGE,
 };
-use super::search::{set_of, Arc, Arcs, Query};
+use super::remarks::remarks;
+use super::search::{set_of, Arc, Arcs, Query, WEEKDAY};
 
 /// A page of so many bytes, or more, is refused as a whole.
 pub const TOO_LONG: usize = 524_288;
@@ -39,9 +41,27 @@ const GRAVEST_FIRST: [u32; 6] = [
     BAD_CONDITION,
 ];
 
-/// In the order of paper 01's table of mean places.
-pub const BODIES: [&str; 9] = [
-    "sun", "moon", "apogee", "node", "mars", "mercury", "jupiter", "venus", "saturn",
+/// In the order of a query's sets.
+pub const SETS: [&str; 5] = ["weekday", "tithi", "nakshatra", "yoga", "karana"];
+
+/// In the order of paper 01's table of mean places, and of P1's true ones.
+pub const BODIES: [&str; 16] = [
+    "sun",
+    "moon",
+    "apogee",
+    "node",
+    "mars",
+    "mercury",
+    "jupiter",
+    "venus",
+    "saturn",
+    "true_sun",
+    "true_moon",
+    "true_mars",
+    "true_mercury",
+    "true_jupiter",
+    "true_venus",
+    "true_saturn",
 ];
 
 const NO_SUCH_WORD: &str = "no line begins with this word";
@@ -76,7 +96,8 @@ impl Fault {
 
 /// What standard error has to say.
 pub enum Complaint {
-    Nothing,
+    /// Just this, of an input that is accepted.
+    Remarks(String),
     /// A line about the line of this number, counted from 1, that gives one of these reasons.
     OfLine(usize, Vec<&'static str>),
     /// A line about the page as a whole.
@@ -101,11 +122,8 @@ pub enum End {
 enum Said {
     Span(End, End),
     Edition(u32),
-    /// The number of a set.
-    Weekdays(u32),
-    Tithi(u32),
-    Nakshatra(u32),
-    Yoga(u32),
+    /// Which set, and its number.
+    Set(usize, u32),
     Arcs(usize, Arcs),
 }
 
@@ -139,22 +157,38 @@ fn weekday(word: &str) -> Option<u32> {
     number(word).or_else(|| named().map(|weekday| weekday as u32))
 }
 
-/// One to seven. "A weekday that stands twice" makes it another form; a number that is none may stand
-/// twice, and is left to the search to refuse.
-fn weekdays(values: &[&str]) -> Option<Vec<u32>> {
-    let numbers: Option<Vec<u32>> = values.iter().map(|value| weekday(value)).collect();
-    let numbers = numbers.filter(|numbers| (1..=7).contains(&numbers.len()))?;
-    let times = |weekday: u32| numbers.iter().filter(|other| **other == weekday).count();
-    (0..7).all(|weekday| times(weekday) <= 1).then_some(numbers)
+/// "Each once": a number that is below `known` and stands twice makes it another form. One from there
+/// on may stand twice, and is left to the search to refuse.
+fn each_once(numbers: &[u32], known: u32) -> bool {
+    let times = |number: u32| numbers.iter().filter(|other| **other == number).count();
+    (0..known).all(|number| times(number) <= 1)
+}
+
+/// One to seven weekdays, or one to thirty numbers.
+fn set_in(set: usize, values: &[&str]) -> Option<u32> {
+    let (known, value): (u32, fn(&str) -> Option<u32>) = match set {
+        WEEKDAY => (7, weekday),
+        _ => (31, number),
+    };
+    let numbers: Option<Vec<u32>> = values.iter().map(|word| value(word)).collect();
+    let in_number = (1..=most_values(SETS[set])).contains(&values.len());
+    let numbers = numbers.filter(|numbers| in_number && each_once(numbers, known))?;
+    Some(set_of(&numbers))
 }
 
 /// Seconds, or D:M:S with D below 1000, M and S below 60.
-fn seconds(word: &str) -> Option<u32> {
+pub fn seconds(word: &str) -> Option<u32> {
     let in_degrees = || match three_numbers(word, ':')? {
         [d @ ..=999, m @ ..=59, s @ ..=59] => Some(3600 * d + 60 * m + s),
         _ => None,
     };
     number(word).or_else(in_degrees)
+}
+
+/// Degrees, minutes and seconds, as a page has them.
+pub fn in_degrees(seconds: u32) -> String {
+    let (minutes, seconds) = (seconds / 60, seconds % 60);
+    format!("{}:{}:{seconds}", minutes / 60, minutes % 60)
 }
 
 /// A start and a width, or two of each.
@@ -170,8 +204,12 @@ fn arcs(values: &[&str]) -> Option<Arcs> {
     }
 }
 
-fn body(word: &str) -> Option<usize> {
+pub fn body(word: &str) -> Option<usize> {
     BODIES.iter().position(|name| *name == word)
+}
+
+fn set(word: &str) -> Option<usize> {
+    SETS.iter().position(|name| *name == word)
 }
 
 pub fn words(line: &str) -> Vec<&str> {
@@ -182,30 +220,27 @@ pub fn words(line: &str) -> Vec<&str> {
 
 /// None for values of another form, and for what is no word.
 fn said_by(word: &str, values: &[&str]) -> Option<Said> {
-    Some(match (word, values) {
-        ("span", [from, to]) => Said::Span(end(from)?, end(to)?),
-        ("edition", [value]) => Said::Edition(number(value)?),
-        ("weekday", _) => Said::Weekdays(set_of(&weekdays(values)?)),
-        ("tithi", [value]) => Said::Tithi(number(value)?),
-        ("nakshatra", [value]) => Said::Nakshatra(number(value)?),
-        ("yoga", [value]) => Said::Yoga(number(value)?),
+    Some(match (word, values, set(word)) {
+        ("span", [from, to], _) => Said::Span(end(from)?, end(to)?),
+        ("edition", [value], _) => Said::Edition(number(value)?),
+        (_, _, Some(set)) => Said::Set(set, set_in(set, values)?),
         _ => Said::Arcs(body(word)?, arcs(values)?),
     })
 }
 
 /// More values than these are too many, whatever they are: "more than seven values of a weekday, more
-/// than four of a body, and more than two of any other word".
+/// than four of a body, and more than two of any other word", but thirty of P1's sets.
 fn most_values(word: &str) -> usize {
-    match word {
-        "weekday" => 7,
-        _ if body(word).is_some() => 4,
-        _ => 2,
+    match set(word) {
+        Some(WEEKDAY) => 7,
+        Some(_) => 30,
+        None if body(word).is_some() => 4,
+        None => 2,
     }
 }
 
 fn is_word(word: &str) -> bool {
-    ["span", "edition", "weekday", "tithi", "nakshatra", "yoga"].contains(&word)
-        || body(word).is_some()
+    ["span", "edition"].contains(&word) || set(word).is_some() || body(word).is_some()
 }
 
 fn gravity(refusal: u32) -> usize {
@@ -236,10 +271,7 @@ impl Said {
                 [query.first, query.last] = [ends[0]?, ends[1]?];
             }
             Said::Edition(value) => query.edition = value,
-            Said::Weekdays(set) => query.weekdays = Some(set),
-            Said::Tithi(value) => query.tithi = Some(value),
-            Said::Nakshatra(value) => query.nakshatra = Some(value),
-            Said::Yoga(value) => query.yoga = Some(value),
+            Said::Set(at, set) => query.sets[at] = Some(set),
             Said::Arcs(body, arcs) => query.arcs[body] = arcs,
         }
         Ok(())
@@ -340,10 +372,10 @@ pub fn read(almanac: &Almanac, text: &str) -> Result<Query, FaultAt> {
 }
 
 impl Printed {
-    pub fn accepted(output: String) -> Printed {
+    pub fn accepted(output: String, remarks: String) -> Printed {
         Printed {
             output,
-            complaint: Complaint::Nothing,
+            complaint: Complaint::Remarks(remarks),
         }
     }
 
@@ -373,10 +405,13 @@ pub fn printed(almanac: &Almanac, page: &[u8]) -> Printed {
     if page.len() >= TOO_LONG {
         return Printed::too_long();
     }
-    match read(almanac, &letters(page)) {
+    let page = letters(page);
+    match read(almanac, &page) {
         Ok(query) => {
-            let found = query.search(almanac).expect("all lines are well-formed");
-            Printed::accepted(catalogue::text(almanac, &found))
+            let found = query.hastened_search(almanac);
+            let found = found.expect("all lines are well-formed");
+            let remarks = remarks(almanac, &page, 1);
+            Printed::accepted(catalogue::text(almanac, &found), remarks)
         }
         Err(fault_at) => Printed::at_fault(fault_at),
     }

@@ -4,6 +4,11 @@ use super::exact::{reduced, Fraction, CIRCLE};
 use super::longitudes::{JUPITER, MARS, MERCURY_ANOMALY, SATURN, SUN, VENUS_ANOMALY};
 use super::panchanga::quarter;
 
+/// Numbers of true places, behind those of the nine mean ones (P1); the star planets' follow Mars'.
+pub const TRUE_SUN: usize = 9;
+pub const TRUE_MOON: usize = 10;
+pub const TRUE_MARS: usize = 11;
+
 /// The tables are "in tenths of a degree".
 pub const TENTH: i128 = 360;
 

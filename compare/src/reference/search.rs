@@ -1,13 +1,14 @@
-//! Paper 01, "A reading and its walk", with the edition that a reading names by paper 02, L8, and the
-//! set of weekdays and the one or two arcs of a body that it has by L9. A reading is here a query, a
-//! fitting day a matching day, the walk's days are the visited days, and a place of the lent list is
-//! an entry.
+//! Paper 01, "A reading and its walk", with the edition that a reading names by paper 02, L8, the set
+//! of weekdays and the one or two arcs of a body that it has by L9, and the sets of limbs and the arcs
+//! of true places that it has by P1. A reading is here a query, a fitting day a matching day, the
+//! walk's days are the visited days, and a place of the lent list is an entry.
 
 use super::almanac::{Almanac, Day};
 use super::days::LAST_DAY;
 use super::edition::Edition;
 use super::exact::{reduced, Fraction};
 use super::longitudes::SUN;
+use super::planets::TRUE_SUN;
 use super::refusal::{Answer, BAD_CONDITION, LAST_BEFORE_FIRST, OUT_OF_RANGE};
 
 /// "An arc: a start, and a width from 1 to 1,296,000."
@@ -29,6 +30,16 @@ impl Arc {
     /// "A place is in the arc if (place − start), reduced by whole circles, is below the width."
     fn holds(self, place: u32) -> bool {
         reduced(i128::from(place) - i128::from(self.start)) < self.width
+    }
+
+    /// P1: "made wider by that on both sides (the whole circle where that is no less than a circle)".
+    fn widened(self, by: u32) -> Arc {
+        let width = self.width + 2 * by;
+        if width >= 1_296_000 {
+            Arc::new(0, 1_296_000)
+        } else {
+            Arc::new(reduced(i128::from(self.start) - i128::from(by)), width)
+        }
     }
 
     /// Where one who is outside the arc next comes to its start: this side of 0, or a circle on.
@@ -84,6 +95,11 @@ impl Arcs {
         self.given().all(Arc::well_formed)
     }
 
+    fn widened(self, by: u32) -> Arcs {
+        let [first, second] = [self.first, self.second].map(|arc| arc.map(|arc| arc.widened(by)));
+        Arcs { first, second }
+    }
+
     /// Where one or two are given, a place in one of these will do; where none is, every place.
     pub fn allow(self, place: u32) -> bool {
         self.given().count() == 0 || self.given().any(|arc| arc.holds(place))
@@ -96,48 +112,73 @@ impl Arcs {
     }
 }
 
-/// Which weekdays will do, Monday first.
-type Weekdays = [bool; 7];
+/// The sets of a query, by the names of what is in them.
+pub const WEEKDAY: usize = 0;
+pub const TITHI: usize = 1;
+pub const NAKSHATRA: usize = 2;
+pub const YOGA: usize = 3;
+pub const KARANA: usize = 4;
 
-/// The weekdays of a set, which is a number "with a bit for each weekday, Monday the lowest": they are
-/// read off one by one, and the number halved each time. None for an empty set, and for one with
-/// anything left behind the seven.
-fn weekdays_of(set: u32) -> Option<Weekdays> {
+/// The least and the largest number of each set. "Refusals by number", 6: "weekday 6, tithi 29,
+/// nakshatra and yoga 26 are the largest". P1: "a set of karanas (1 to 11)".
+pub const RANGES: [(u32, u32); 5] = [(0, 6), (0, 29), (0, 26), (0, 26), (1, 11)];
+
+/// Which of the numbers from 0 up will do.
+type Numbers = [bool; 32];
+
+/// The numbers of a set, which is a number "with a bit for each weekday, Monday the lowest" (L9), and so
+/// for the other sets: they are read off one by one, and the number halved each time.
+fn numbers_of(set: u32) -> Numbers {
     let mut left = set;
-    let weekdays = [(); 7].map(|()| {
+    [(); 32].map(|()| {
         let stands = left % 2 == 1;
         left /= 2;
         stands
-    });
-    (left == 0 && weekdays.contains(&true)).then_some(weekdays)
+    })
 }
 
-/// The set of some weekdays. A number that is none stands behind Sunday, so that the set is refused.
-pub fn set_of(weekdays: &[u32]) -> u32 {
-    let bits = weekdays.iter().map(|weekday| 1 << weekday.min(&7));
+/// The set of some numbers. Those from 31 up have a bit together, which is in no range.
+pub fn set_of(numbers: &[u32]) -> u32 {
+    let bits = numbers.iter().map(|number| 1 << number.min(&31));
     bits.fold(0, |set, bit: u32| set | bit)
+}
+
+/// Every number where no set is given. L9: "6 also for an empty weekday set"; P1: "refused with 6: an
+/// empty set, a set with a number out of range".
+fn numbers_in(set: Option<u32>, (least, largest): (u32, u32)) -> Answer<Numbers> {
+    let Some(set) = set else {
+        return Ok([true; 32]);
+    };
+    let numbers = numbers_of(set);
+    let mut standing = (0..32).filter(|number| numbers[*number as usize]);
+    let in_range = standing.all(|number| (least..=largest).contains(&number));
+    if in_range && numbers.contains(&true) {
+        Ok(numbers)
+    } else {
+        Err(BAD_CONDITION)
+    }
 }
 
 /// "A reading has a first and a last day, both counted, and optionally one weekday, one tithi, one
 /// nakshatra, one yoga, and for each of the nine mean places an arc." L8: it names its edition. L9:
-/// its "single weekday becomes a set of weekdays", and each arc "one or two".
+/// its "single weekday becomes a set of weekdays", and each arc "one or two". P1: "Tithi, nakshatra and
+/// yoga each become a set, and a set of karanas (1 to 11) joins them"; of the seven true places "one or
+/// two arcs each may be asked".
 #[derive(Clone, Debug)]
 pub struct Query {
     pub edition: u32,
     pub first: u32,
     pub last: u32,
-    /// The number of a set.
-    pub weekdays: Option<u32>,
-    pub tithi: Option<u32>,
-    pub nakshatra: Option<u32>,
-    pub yoga: Option<u32>,
-    pub arcs: [Arcs; 9],
+    /// The number of each set.
+    pub sets: [Option<u32>; 5],
+    /// Of the nine mean places, and behind them of the seven true ones.
+    pub arcs: [Arcs; 16],
 }
 
 /// What a query that isn't refused names by numbers.
 pub struct Named {
     edition: Edition,
-    weekdays: Weekdays,
+    sets: [Numbers; 5],
 }
 
 /// What the search has to give where it isn't refused before the list is looked at.
@@ -158,10 +199,8 @@ pub struct Look {
     pub next: u32,
 }
 
-/// True if nothing is asked, or if what is asked meets the test.
-fn asked<T: Copy>(condition: Option<T>, test: impl Fn(T) -> bool) -> bool {
-    condition.map_or(true, test)
-}
+/// P1: "the true Sun is never farther from the mean Sun than the largest equation, 7,845 seconds".
+pub const LARGEST_EQUATION: u32 = 7845;
 
 impl Query {
     /// In edition 1.
@@ -170,11 +209,8 @@ impl Query {
             edition: 1,
             first,
             last,
-            weekdays: None,
-            tithi: None,
-            nakshatra: None,
-            yoga: None,
-            arcs: [Arcs::NONE; 9],
+            sets: [None; 5],
+            arcs: [Arcs::NONE; 16],
         }
     }
 
@@ -182,55 +218,37 @@ impl Query {
     /// reckons"), and "the C calls stay edition 1" (L8).
     pub fn of_host(first: u32, last: u32, sun: Arc, weekday: u32) -> Query {
         let mut query = Query::without_conditions(first, last);
-        query.weekdays = Some(set_of(&[weekday]));
+        query.sets[WEEKDAY] = Some(set_of(&[weekday]));
         query.arcs[SUN] = Arcs::one(sun);
         query
     }
 
-    /// "Refusals by number", 6: "tithi 29, nakshatra and yoga 26 are the largest; arc start 1,295,999;
-    /// width as above".
-    fn conditions_in_range(&self) -> bool {
-        asked(self.tithi, |tithi| tithi <= 29)
-            && asked(self.nakshatra, |nakshatra| nakshatra <= 26)
-            && asked(self.yoga, |yoga| yoga <= 26)
-            && self.arcs.iter().all(|arcs| arcs.well_formed())
-    }
-
-    /// Every weekday where no set is given; none at all, and so 6, where the set isn't one. L9: "6
-    /// also for an empty weekday set".
-    fn weekdays(&self) -> Answer<Weekdays> {
-        match self.weekdays {
-            None => Ok([true; 7]),
-            Some(set) => weekdays_of(set).ok_or(BAD_CONDITION),
-        }
-    }
-
     /// "Order: search 2, 5, 6, 7", and 14 "before all others" (L8); 7 needs the list and comes
-    /// later. A query that isn't refused has an edition and weekdays.
+    /// later. A query that isn't refused has an edition and sets.
     pub fn well_formed(&self) -> Answer<Named> {
         let edition = Edition::numbered(self.edition)?;
         if self.first > LAST_DAY || self.last > LAST_DAY {
             Err(OUT_OF_RANGE)
         } else if self.last < self.first {
             Err(LAST_BEFORE_FIRST)
-        } else if !self.conditions_in_range() {
+        } else if !self.arcs.iter().all(|arcs| arcs.well_formed()) {
             Err(BAD_CONDITION)
         } else {
-            let weekdays = self.weekdays()?;
-            Ok(Named { edition, weekdays })
+            let mut sets = [[true; 32]; 5];
+            for (at, numbers) in sets.iter_mut().enumerate() {
+                *numbers = numbers_in(self.sets[at], RANGES[at])?;
+            }
+            Ok(Named { edition, sets })
         }
     }
 
     /// "Meets all conditions given, by the weekday, tithi, nakshatra, yoga and mean places that
     /// the rules above give that day." "A reading without conditions fits every day." L8: "in
-    /// edition 2 with the true Moon so changed".
+    /// edition 2 with the true Moon so changed". P1: "a day meets it if its own is in the set".
     fn met_by(&self, day: &Day, named: &Named) -> bool {
-        let elements = day.elements(named.edition);
-        named.weekdays[day.weekday as usize]
-            && asked(self.tithi, |tithi| tithi == elements.tithi)
-            && asked(self.nakshatra, |nakshatra| nakshatra == elements.nakshatra)
-            && asked(self.yoga, |yoga| yoga == elements.yoga)
-            && (0..9).all(|body| self.arcs[body].allow(day.mean[body]))
+        let own = day.numbers(named.edition);
+        (0..5).all(|at| named.sets[at][own[at] as usize])
+            && (0..16).all(|body| self.arcs[body].allow(day.place(body, named.edition)))
     }
 
     /// "Fitting days are defined from the span alone and not from the walk": every day is tested.
@@ -294,6 +312,27 @@ impl Query {
         let span = &days[self.first as usize..=self.last as usize];
         let inside = span.iter().filter(|day| arcs.allow(day.mean[SUN])).count() as u32;
         Some(inside + more + for_each * (span.len() as u32 / 360))
+    }
+
+    /// P1, "Haste for a true Sun": the query that also asks for the mean Sun, where this one asks for
+    /// the true Sun and not for the mean Sun; any other as it is.
+    pub fn hastened(&self) -> Query {
+        let mut query = self.clone();
+        if self.arcs[SUN].given().count() == 0 {
+            query.arcs[SUN] = self.arcs[TRUE_SUN].widened(LARGEST_EQUATION);
+        }
+        query
+    }
+
+    /// P1: what `find` has to find. The days are those of this query, whose span is tested day by day;
+    /// "`looked` tells the number of the walk that was made".
+    pub fn hastened_search(&self, almanac: &Almanac) -> Answer<Found> {
+        let (found, hastened) = (self.search(almanac)?, self.hastened());
+        Ok(Found {
+            visited: hastened.visited_days(almanac.days()),
+            limit: hastened.limit(almanac.days()),
+            ..found
+        })
     }
 
     pub fn search(&self, almanac: &Almanac) -> Answer<Found> {

@@ -7,26 +7,20 @@ use super::almanac::Almanac;
 use super::catalogue::{named, WEEKDAYS};
 use super::edition::Edition;
 use super::page::{
-    end, gravest, letters, read, without_newline, words, Fault, Printed, BODIES, OTHER_VALUES,
-    TOO_LONG,
+    end, gravest, in_degrees, letters, read, without_newline, words, Fault, Printed, BODIES,
+    OTHER_VALUES, SETS, TOO_LONG,
 };
 use super::reasons::{why, Asked, Reason, Why};
 use super::refusal::BAD_INPUT;
+use super::remarks::remarks;
+use super::search::WEEKDAY;
 
-/// Degrees, minutes and seconds.
-fn in_degrees(seconds: u32) -> String {
-    let (minutes, seconds) = (seconds / 60, seconds % 60);
-    format!("{}:{}:{seconds}", minutes / 60, minutes % 60)
-}
-
-/// The names of a set's weekdays, "Monday first".
-fn names(set: u32) -> String {
-    let stand = WEEKDAYS
-        .iter()
-        .zip(0..)
-        .filter(|(_, bit)| set >> bit & 1 == 1);
-    let names: Vec<&str> = stand.map(|(name, _)| *name).collect();
-    names.join(" ")
+/// A number of a set as it is printed: a weekday by its name.
+fn shown(set: usize, number: u32) -> String {
+    match set {
+        WEEKDAY => WEEKDAYS[number as usize].to_string(),
+        _ => number.to_string(),
+    }
 }
 
 /// What stands behind `does not fit: `.
@@ -34,13 +28,13 @@ fn explained(almanac: &Almanac, Reason { asked, found, .. }: Reason) -> String {
     match asked {
         Asked::From(first) => format!("before the span asked from {}", named(almanac, first)),
         Asked::To(last) => format!("after the span asked to {}", named(almanac, last)),
-        Asked::Weekdays(set) => {
-            let found = WEEKDAYS[found as usize];
-            format!("weekday asked {} found {found}", names(set))
+        // "Monday first", and so the smallest number of other sets.
+        Asked::Set(at, set) => {
+            let standing = (0..32).filter(|number| set >> number & 1 == 1);
+            let asked: Vec<String> = standing.map(|number| shown(at, number)).collect();
+            let (word, found) = (SETS[at], shown(at, found));
+            format!("{word} asked {} found {found}", asked.join(" "))
         }
-        Asked::Tithi(value) => format!("tithi asked {value} found {found}"),
-        Asked::Nakshatra(value) => format!("nakshatra asked {value} found {found}"),
-        Asked::Yoga(value) => format!("yoga asked {value} found {found}"),
         Asked::Arcs(body, arcs) => {
             let values = arcs.given().flat_map(|arc| [arc.start, arc.width]);
             let asked: Vec<String> = values.map(in_degrees).collect();
@@ -86,7 +80,7 @@ pub fn printed(almanac: &Almanac, text: &[u8]) -> Printed {
     match (day_in(almanac, first_line), read(almanac, page)) {
         (Ok(day), Ok(query)) => {
             let why = why(almanac, &query, day).expect("all lines are well-formed");
-            Printed::accepted(line(almanac, day, why))
+            Printed::accepted(line(almanac, day, why), remarks(almanac, page, 2))
         }
         (day, query) => {
             let of_day = day.err().map(|fault| (fault, 1));

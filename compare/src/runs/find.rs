@@ -4,11 +4,17 @@ use crate::checks::Checks;
 use crate::random::Random;
 use crate::reference::almanac::Almanac;
 use crate::reference::catalogue::WEEKDAYS;
-use crate::reference::page::{printed, BODIES, TOO_LONG};
+use crate::reference::days::LAST_DAY;
+use crate::reference::edition::Edition;
+use crate::reference::page::{printed, read, BODIES, SETS, TOO_LONG};
+use crate::reference::planets::TRUE_SUN;
+use crate::reference::search::{set_of, LARGEST_EQUATION, RANGES, TITHI, WEEKDAY};
 
+use super::half_read::{arcs_at, days_apart};
 use super::page_text::*;
 use super::programs;
 use super::queries::Kind;
+use super::EDITIONS;
 
 const PROGRAM: &str = "target/bin/find";
 
@@ -61,6 +67,7 @@ fn values(checks: &mut Checks, almanac: &Almanac) {
         "tithi",
         "nakshatra",
         "yoga",
+        "karana",
         "rahu",
     ];
     for word in words.into_iter().chain(BODIES) {
@@ -146,7 +153,7 @@ fn odd(checks: &mut Checks, almanac: &Almanac) {
 fn weekday_sets(checks: &mut Checks, almanac: &Almanac) {
     let mut random = Random::from_seed();
     for set in 1..128 {
-        let values = weekdays(&mut random, set).join(" ");
+        let values = values_of(&mut random, WEEKDAY, set).join(" ");
         compare_line(checks, almanac, &format!("weekday {values}"));
     }
     for (number, name) in WEEKDAYS.iter().enumerate() {
@@ -199,6 +206,114 @@ fn smudged(checks: &mut Checks, almanac: &Almanac) {
     ];
     for page in pages {
         compare(checks, almanac, page);
+    }
+}
+
+/// Sets of limbs and true places with blanks and comments in odd places, beside the mean places, and
+/// beside other faults.
+fn half_read(checks: &mut Checks, almanac: &Almanac) {
+    let pages: [&[u8]; 27] = [
+        b"\t tithi\r\t13\t\t14 \r\nspan 5 99\r\n",
+        b"tithi 13 # 14\nspan 5 99\n",
+        b"tithi 13#14\nspan 5 99\n",
+        b"tithi # 13 14\nspan 5 99\n",
+        b"tithi 13\n14\nspan 5 99\n",
+        b"tithi 13\ntithi 14\nspan 5 99\n",
+        b"tithi 13 13\ntithi 14\nspan 5 99\n",
+        b"tithi 13 30\ntithi 13 13\nspan 9 5\n",
+        b"tithi 13 14\nnakshatra 3 4 5 6 7\nyoga 1 2 3 4 5 6\nkarana 1 2 3\nspan 5 999\n",
+        b"tithi 13 14\nnakshatra 3 4 5 6 7\nyoga 1 2 3 4 5 6\nkarana 1 2 3\nspan 5 999\nedition 2\n",
+        b"karana 7\nspan 5 99",
+        b"span 5 99\nkarana 7",
+        b"karana 7\nkarana 8\nspan 5 99\n",
+        b"karana 0\nspan 9 5\n",
+        b"karana 0\nedition 3\n",
+        b"karana 7 7\nspan 1582-10-10 5\n",
+        b"karana 12\nspan 1582-10-10 5\n",
+        b"true_sun\t0\t1:0:0\r180:0:0  1:0:0 \nspan 0 729\n",
+        b"true_sun 0 3600 # 648000 3600\nspan 0 729\n",
+        b"true_sun 0 3600 648000 # 3600\nspan 0 729\n",
+        b"true_sun 0 3600\ntrue_sun 0 3600\nspan 0 729\n",
+        b"sun 0 3600\ntrue_sun 0 3:0:0\nspan 0 729\n",
+        b"true_sun 0 3:0:0\nsun 0 3600 648000 3600\nspan 0 729\n",
+        b"sun 0 1296000\ntrue_sun 0 3:0:0\nspan 0 729\n",
+        b"sun 0 3600\ntrue_sun 0 0\nspan 0 729\n",
+        b"true_sun 0 3600\nsun 0 0\nspan 0 729\n",
+        b"true_moon 350:0:0 20:0:0\nmoon 350:0:0 20:0:0\nspan 0 729\nedition 2\n",
+    ];
+    for page in pages {
+        compare(checks, almanac, page);
+    }
+    let mut random = Random::from_seed();
+    for at in TITHI..5 {
+        let (least, largest) = RANGES[at];
+        for (first, last) in (least..=largest).flat_map(|last| [(least, last), (last, largest)]) {
+            let set = set_of(&Vec::from_iter(first..=last));
+            let values = values_of(&mut random, at, set).join(" ");
+            compare_line(checks, almanac, &format!("{} {values}", SETS[at]));
+        }
+    }
+}
+
+/// Pages for the true Sun: where it is as far from the mean Sun as it comes, the list has that day; and
+/// arcs that cross 0, or that made wider are the whole circle, or not quite.
+fn haste(checks: &mut Checks, almanac: &Almanac) {
+    let mut random = Random::from_seed();
+    let largest = i64::from(LARGEST_EQUATION);
+    for apart in [largest, -largest] {
+        let days = days_apart(almanac, apart);
+        for day in [(); 8].map(|()| random.one_of(&days)) {
+            let place = almanac.days()[day as usize].place(TRUE_SUN, Edition::First);
+            for arc in arcs_at(place) {
+                let beside = if arc.width > 3600 { 3 } else { 400 };
+                let (first, last) = (day.saturating_sub(beside), LAST_DAY.min(day + beside));
+                let (start, width) = (arc.start, arc.width);
+                let page = format!("span {first} {last}\ntrue_sun {start} {width}\n");
+                compare(checks, almanac, page.as_bytes());
+            }
+        }
+    }
+    for arcs in [
+        "0 1",
+        "359:59:59 2",
+        "359:0:0 3:0:0 179:0:0 3:0:0",
+        "7844 1",
+        "7845 1",
+        "7846 1",
+        "0 1280308",
+        "0 1280309",
+        "0 1280310",
+        "0 1280311",
+        "5 1 0 1280309",
+        "0 1280310 648000 1",
+        "0 1296000",
+    ] {
+        for edition in EDITIONS {
+            let page = format!("span 20 1500\nedition {edition}\ntrue_sun {arcs}\n");
+            compare(checks, almanac, page.as_bytes());
+        }
+    }
+}
+
+/// Pages with just so many days that `find` may list while it counts, or one more or fewer: from the
+/// table's start, and with conditions.
+fn many_matches(checks: &mut Checks, almanac: &Almanac) {
+    let with_conditions = [
+        "",
+        "tithi 0 1 2 3 4 5 6 7 8 9 10 11 12 13\n",
+        "true_sun 0 90:0:0\n",
+    ];
+    for conditions in with_conditions {
+        let query = read(almanac, conditions)
+            .ok()
+            .expect("the page is accepted");
+        let matching = query.search(almanac).expect("the query is well-formed");
+        let matching = matching.matching;
+        for count in [175, 176, 177, 16_383, 16_384, 16_385, 32_769] {
+            let last = matching[count - 1];
+            let page = format!("{conditions}span 0 {last}\n");
+            compare(checks, almanac, page.as_bytes());
+        }
     }
 }
 
@@ -258,6 +373,11 @@ fn many_days(checks: &mut Checks, almanac: &Almanac) {
         "sun 0 1 180:0:0 1\n",
         "weekday 6 5 4\nsun 359:0:0 2:0:0 359:0:0 2:0:0\nyoga 3\n",
         "saturn 0 3600 180:0:0 3600\nmoon 0 1:0:0 1:0:0 1:0:0\n",
+        "weekday monday\ntithi 14\ntrue_sun 35:0:0 1:0:0\n",
+        "weekday monday\ntithi 13 14\nkarana 7 1\ntrue_moon 200:0:0 10:0:0\n",
+        "true_jupiter 120:0:0 2:0:0\ntrue_saturn 326:0:0 2:0:0\n",
+        "true_mars 359:0:0 2:0:0\ntrue_venus 0 60:0:0\ntrue_mercury 340:0:0 40:0:0\n",
+        "karana 8 9 10 11\nweekday sunday\n",
     ];
     for page in pages {
         compare(checks, almanac, page.as_bytes());
@@ -342,9 +462,9 @@ fn in_pieces(checks: &mut Checks, almanac: &Almanac) {
 /// The lines of a random query; any conditions, or one or two over a longer span.
 pub fn random_lines(random: &mut Random, almanac: &Almanac, kind: Kind) -> Vec<Line> {
     let (given, most) = if random.once_in(2) {
-        (random.below(1 << 13), 400)
+        (kind.any(random), 400)
     } else {
-        (1 << random.below(13) | 1 << random.below(13), 3000)
+        (kind.few(random), 3000)
     };
     let query = kind.draw(random, almanac, given, most);
     lines_of(random, almanac, &query)
@@ -371,9 +491,8 @@ pub fn spoil(random: &mut Random, lines: &mut Vec<Line>) {
 
 fn random_pages(checks: &mut Checks, almanac: &Almanac) {
     let mut random = Random::from_seed();
-    for (kind, round) in
-        Kind::all().flat_map(|kind| kind.rounds(900).map(move |round| (kind, round)))
-    {
+    let kinds = Kind::all().into_iter().chain(Kind::half_read());
+    for (kind, round) in kinds.flat_map(|kind| kind.rounds(900).map(move |round| (kind, round))) {
         let mut lines = random_lines(&mut random, almanac, kind);
         if round % 3 == 1 {
             spoil(&mut random, &mut lines);
@@ -395,6 +514,9 @@ pub fn run(checks: &mut Checks, almanac: &Almanac) {
     odd(checks, almanac);
     weekday_sets(checks, almanac);
     smudged(checks, almanac);
+    half_read(checks, almanac);
+    haste(checks, almanac);
+    many_matches(checks, almanac);
     editions(checks, almanac);
     many_days(checks, almanac);
     long(checks, almanac);

@@ -6,7 +6,7 @@ use crate::random::Random;
 use crate::reference::almanac::Almanac;
 use crate::reference::days::LAST_DAY;
 use crate::reference::refusal::BAD_INPUT;
-use crate::reference::search::{Arc, Arcs, Query};
+use crate::reference::search::{set_of, Arc, Arcs, Query, TITHI};
 
 use super::queries::{at_range_ends, most_entries, spoil, Kind, REFUSED_SPANS};
 use super::query_bytes::{encode, other_lengths, shown};
@@ -34,6 +34,13 @@ impl SearchCalls for BridgeSearch {
         unsafe { bridge_looked(self.bytes.as_ptr(), self.bytes.len()) }
     }
 
+    fn list_first(&self, list: &mut [u8]) -> Option<u32> {
+        let query = &self.bytes;
+        Some(unsafe {
+            bridge_list_first(query.as_ptr(), query.len(), list.as_mut_ptr(), list.len())
+        })
+    }
+
     fn input(&self) -> String {
         shown(&self.bytes)
     }
@@ -52,9 +59,8 @@ pub fn compare(checks: &mut Checks, almanac: &Almanac, random: &mut Random, quer
     );
 }
 
-/// Every combination of conditions given and not given.
 fn combinations(checks: &mut Checks, almanac: &Almanac, random: &mut Random, kind: Kind) {
-    for given in 0..1 << 13 {
+    for given in kind.combinations(random) {
         let query = kind.draw(random, almanac, given, 400);
         compare(checks, almanac, random, &query);
     }
@@ -63,9 +69,9 @@ fn combinations(checks: &mut Checks, almanac: &Almanac, random: &mut Random, kin
 /// One or two conditions, over longer spans; some are as long as the table, or a hundred years for
 /// smudged queries.
 fn few_conditions(checks: &mut Checks, almanac: &Almanac, random: &mut Random, kind: Kind) {
-    let longest = if kind.smudged { 36_525 } else { LAST_DAY + 1 };
+    let longest = if kind.smudged() { 36_525 } else { LAST_DAY + 1 };
     for round in kind.rounds(2000) {
-        let given = 1 << random.below(13) | 1 << random.below(13);
+        let given = kind.few(random);
         let most = if round % 100 == 0 { longest } else { 3000 };
         let query = kind.draw(random, almanac, given, most);
         compare(checks, almanac, random, &query);
@@ -75,7 +81,7 @@ fn few_conditions(checks: &mut Checks, almanac: &Almanac, random: &mut Random, k
 /// Wide arcs of any bodies, with a weekday or without, so that many days match.
 fn wide_arcs(checks: &mut Checks, almanac: &Almanac, random: &mut Random, kind: Kind) {
     for _ in kind.rounds(2000) {
-        let given = random.below(1 << 9) << 4 | random.below(2);
+        let given = kind.any(random) & !0b1110;
         let mut query = kind.draw(random, almanac, given, 800);
         for arcs in &mut query.arcs {
             for arc in arcs.first.iter_mut().chain(&mut arcs.second) {
@@ -91,7 +97,7 @@ fn whole(checks: &mut Checks, almanac: &Almanac, random: &mut Random, edition: u
     let mut query = Query::without_conditions(0, LAST_DAY);
     query.edition = edition;
     compare(checks, almanac, random, &query);
-    query.tithi = Some(14);
+    query.sets[TITHI] = Some(set_of(&[14]));
     query.arcs[3] = Arcs::one(Arc::new(1_200_000, 200_000));
     compare(checks, almanac, random, &query);
 }
@@ -113,8 +119,8 @@ fn order(checks: &mut Checks, almanac: &Almanac, random: &mut Random) {
 
 /// Any conditions, some of them ill-formed.
 fn refused(checks: &mut Checks, almanac: &Almanac, random: &mut Random, kind: Kind) {
-    for _ in 0..4000 {
-        let given = random.below(1 << 13);
+    for _ in kind.rounds(4000) {
+        let given = kind.any(random);
         let mut query = kind.draw(random, almanac, given, 400);
         spoil(random, &mut query);
         compare(checks, almanac, random, &query);
@@ -130,7 +136,7 @@ fn no_queries(checks: &mut Checks, random: &mut Random) {
 
 pub fn run(checks: &mut Checks, almanac: &Almanac) {
     let mut random = Random::from_seed();
-    for kind in Kind::all() {
+    for kind in Kind::all().into_iter().chain(Kind::half_read()) {
         combinations(checks, almanac, &mut random, kind);
         few_conditions(checks, almanac, &mut random, kind);
         wide_arcs(checks, almanac, &mut random, kind);

@@ -9,7 +9,8 @@ use crate::random::Random;
 use crate::reference::almanac::Almanac;
 use crate::reference::days::LAST_DAY;
 use crate::reference::longitudes::{MOON, SUN};
-use crate::reference::search::{set_of, Arc, Query};
+use crate::reference::planets::{TRUE_MOON, TRUE_SUN};
+use crate::reference::search::{set_of, Arc, Query, KARANA, NAKSHATRA, TITHI, WEEKDAY, YOGA};
 
 use super::general_search::BridgeSearch;
 use super::host_search::HostSearch;
@@ -229,18 +230,19 @@ fn with_arcs(arcs: &[(usize, Arc)]) -> Query {
 }
 
 /// All days; one in a week or a month; runs of days with a fortnight to 29 years between them; Sun arcs
-/// of one day in most years, of two, and of some KEPT; and sets of weekdays and two arcs of a body.
+/// of one day in most years, of two, and of some KEPT; sets of weekdays and two arcs of a body; and sets of
+/// limbs and true places.
 fn general_searches(checks: &mut Checks, almanac: &Almanac, edition: u32) {
     let mut weekday = any_day();
-    weekday.weekdays = Some(set_of(&[2]));
+    weekday.sets[WEEKDAY] = Some(set_of(&[2]));
     let mut weekdays = any_day();
-    weekdays.weekdays = Some(set_of(&[0, 1, 6]));
+    weekdays.sets[WEEKDAY] = Some(set_of(&[0, 1, 6]));
     let mut tithi = any_day();
-    tithi.tithi = Some(14);
+    tithi.sets[TITHI] = Some(set_of(&[14]));
     let mut nakshatra = any_day();
-    nakshatra.nakshatra = Some(7);
+    nakshatra.sets[NAKSHATRA] = Some(set_of(&[7]));
     let mut yoga = any_day();
-    yoga.yoga = Some(18);
+    yoga.sets[YOGA] = Some(set_of(&[18]));
     let moon = (MOON, Arc::new(900_000, CIRCLE / 2));
     let node = (NODE, Arc::new(1_200_000, 300_000));
     let mars = (MARS, Arc::new(50, 800_000));
@@ -250,10 +252,18 @@ fn general_searches(checks: &mut Checks, almanac: &Almanac, edition: u32) {
     let saturn = |width| (SATURN, Arc::new(50, width));
     let sun = |start, width| (SUN, Arc::new(start, width));
     let mut smudged = with_arcs(&[sun(0, 2 * DEGREE), sun(640_000, 3 * DEGREE)]);
-    smudged.weekdays = Some(set_of(&[1, 3, 4]));
+    smudged.sets[WEEKDAY] = Some(set_of(&[1, 3, 4]));
     let two_moons = [moon, (MOON, Arc::new(300_000, 100_000))];
     let two_suns = [sun(1_295_000, DEGREE), sun(640_000, DEGREE)];
-    let searches: [(Query, &[Place]); 18] = [
+    let mut limbs = any_day();
+    limbs.sets[TITHI] = Some(set_of(&[13, 14, 29]));
+    limbs.sets[KARANA] = Some(set_of(&[1, 7, 9, 10]));
+    let true_moon = (TRUE_MOON, Arc::new(1_200_000, CIRCLE / 2));
+    let true_suns = [
+        sun(636_000, 5 * DEGREE),
+        (TRUE_SUN, Arc::new(640_000, DEGREE)),
+    ];
+    let searches: [(Query, &[Place]); 21] = [
         (any_day(), &ANYWHERE),
         (weekday, &ANYWHERE),
         (tithi, &[Cycle(7)]),
@@ -272,6 +282,9 @@ fn general_searches(checks: &mut Checks, almanac: &Almanac, edition: u32) {
         (with_arcs(&two_moons), &[Late]),
         (with_arcs(&two_suns), &[Soon, Late]),
         (smudged, &[Soon, Late]),
+        (limbs, &[Cycle(7)]),
+        (with_arcs(&[true_moon]), &[Late]),
+        (with_arcs(&true_suns), &[Soon, Late]),
     ];
     let mut random = Random::from_seed();
     for (mut conditions, places) in searches {

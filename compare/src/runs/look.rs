@@ -10,8 +10,9 @@ use crate::reference::almanac::Almanac;
 use crate::reference::days::LAST_DAY;
 use crate::reference::edition::Edition;
 use crate::reference::longitudes::{MOON, SUN};
+use crate::reference::planets::TRUE_SUN;
 use crate::reference::refusal::{result_number, Answer, BAD_INPUT};
-use crate::reference::search::{set_of, Arc, Arcs, Look, Query};
+use crate::reference::search::{set_of, Arc, Arcs, Look, Query, KARANA, NAKSHATRA, TITHI, WEEKDAY};
 
 use super::queries::{
     arc_ahead, at_range_ends, random_arc, random_span, spoil, Kind, Span, REFUSED_ARCS,
@@ -90,10 +91,10 @@ pub fn days_about(random: &mut Random, (first, last): Span) -> BTreeSet<u32> {
     days
 }
 
-/// Every combination of conditions given and not given, and spans moved off a day that meets them
+/// Combinations of conditions given and not given, and spans moved off a day that meets them
 /// all: it fits no more, and is followed as before.
 fn combinations(checks: &mut Checks, almanac: &Almanac, random: &mut Random, kind: Kind) {
-    for given in 0..1 << 13 {
+    for given in kind.combinations(random) {
         let mut query = kind.draw(random, almanac, given, 400);
         let days = days_about(random, (query.first, query.last));
         compare(checks, almanac, random, &query, days);
@@ -126,15 +127,21 @@ fn every_day(checks: &mut Checks, almanac: &Almanac, random: &mut Random) {
         Query::without_conditions(4015, 401_000),
         Query::without_conditions(LAST_DAY, LAST_DAY),
         Query::without_conditions(0, LAST_DAY),
+        Query::without_conditions(0, LAST_DAY),
     ];
-    queries[2].nakshatra = Some(7);
+    queries[2].sets[NAKSHATRA] = Some(set_of(&[7]));
     queries[2].arcs[3] = Arcs::one(Arc::new(1_200_000, 200_000));
     let last = almanac.days()[LAST_DAY as usize].elements(Edition::First);
-    queries[3].tithi = Some(last.tithi);
+    queries[3].sets[TITHI] = Some(set_of(&[last.tithi]));
     queries[3].arcs[SUN] = Arcs::one(Arc::new(0, 1_296_000));
-    queries[4].weekdays = Some(set_of(&[0, 1, 4]));
+    queries[4].sets[WEEKDAY] = Some(set_of(&[0, 1, 4]));
     queries[4].arcs[SUN] = Arcs::two(Arc::new(640_000, 3600), Arc::new(1_295_000, 3600));
     queries[4].arcs[MOON] = Arcs::two(Arc::new(1_200_000, 500_000), Arc::new(700_000, 100_000));
+    // Each true place is outside its arc on one day of seven or so.
+    queries[5].sets[KARANA] = Some(set_of(&[1, 2, 3, 4, 5, 6, 8]));
+    for (body, start) in (TRUE_SUN..16).zip([0, 1_200_000, 300_000, 900_000, 5, 640_000, 77]) {
+        queries[5].arcs[body] = Arcs::one(Arc::new(start, 1_111_111));
+    }
     let mut every_day = |query: &Query| {
         compare(checks, almanac, random, query, 0..=LAST_DAY + 1000);
         compare(checks, almanac, random, query, WIDTH_EDGES);
@@ -208,8 +215,8 @@ fn order(checks: &mut Checks, almanac: &Almanac, random: &mut Random) {
 
 /// Any conditions, some of them ill-formed, often with the span or the edition.
 fn refused(checks: &mut Checks, almanac: &Almanac, random: &mut Random, kind: Kind) {
-    for _ in 0..4000 {
-        let given = random.below(1 << 13);
+    for _ in kind.rounds(4000) {
+        let given = kind.any(random);
         let mut query = kind.draw(random, almanac, given, 400);
         spoil(random, &mut query);
         let days = days_about(random, (query.first, query.last));
@@ -254,9 +261,9 @@ pub fn compare_walk(checks: &mut Checks, almanac: &Almanac, random: &mut Random,
 fn drawn_walks(checks: &mut Checks, almanac: &Almanac, random: &mut Random, kind: Kind) {
     for round in kind.rounds(3000) {
         let given = match round % 3 {
-            0 => random.below(1 << 13),
-            1 => random.below(1 << 13) | 1 << 4,
-            _ => 1 << random.below(13) | 1 << 4,
+            0 => kind.any(random),
+            1 => kind.any(random) | 1 << 4,
+            _ => kind.few(random) | 1 << 4,
         };
         let most = if round % 100 == 0 { LAST_DAY + 1 } else { 1000 };
         let query = kind.draw(random, almanac, given, most);
@@ -289,7 +296,7 @@ fn walks(checks: &mut Checks, almanac: &Almanac, random: &mut Random, edition: u
 
 pub fn run(checks: &mut Checks, almanac: &Almanac) {
     let mut random = Random::from_seed();
-    for kind in Kind::all() {
+    for kind in Kind::all().into_iter().chain(Kind::half_read()) {
         combinations(checks, almanac, &mut random, kind);
         refused(checks, almanac, &mut random, kind);
         drawn_walks(checks, almanac, &mut random, kind);

@@ -4,8 +4,8 @@
 use crate::random::Random;
 use crate::reference::almanac::Almanac;
 use crate::reference::catalogue::WEEKDAYS;
-use crate::reference::page::BODIES;
-use crate::reference::search::Query;
+use crate::reference::page::{BODIES, SETS};
+use crate::reference::search::{Query, WEEKDAY};
 
 /// A line's words, which are to be separated by blanks.
 pub type Line = Vec<String>;
@@ -41,7 +41,7 @@ pub const EDITION_LINES: [&str; 6] = [
 ];
 
 /// Conditions that are accepted, but for the bodies'.
-pub const VALUES: [&str; 30] = [
+pub const VALUES: [&str; 46] = [
     "weekday 0",
     "weekday 6",
     "weekday 000000003",
@@ -72,6 +72,22 @@ pub const VALUES: [&str; 30] = [
     "weekday monday tuesday wednesday thursday friday saturday sunday",
     "weekday 6 monday 4 tuesday 2 3 saturday",
     "weekday sunday friday 2 0",
+    "tithi 3 4",
+    "tithi 29 0",
+    "tithi 13 000000014 02",
+    "tithi 0 1 2 3 4 5 6 7 8 9 10 11 12 13 14 15 16 17 18 19 20 21 22 23 24 25 26 27 28 29",
+    "nakshatra 1 2 3 4 5",
+    "nakshatra 7 8",
+    "nakshatra 26 25 24 23 22 21 20 19 18 17 16 15 14 13 12 11 10 9 8 7 6 5 4 3 2 1 0",
+    "yoga 1 2 3 4 5 6 7 8",
+    "yoga 4 26",
+    "karana 1",
+    "karana 11",
+    "karana 7",
+    "karana 007",
+    "karana 8 9 10 11",
+    "karana 1 2 3 4 5 6 7 8",
+    "karana 11 10 9 8 7 6 5 4 3 2 1",
 ];
 
 /// Arcs that are accepted, one and two.
@@ -90,7 +106,7 @@ pub const ARCS: [&str; 11] = [
 ];
 
 /// Refused with 3. Some words are joined by what is no blank.
-pub const OTHER_FORMS: [&str; 180] = [
+pub const OTHER_FORMS: [&str; 227] = [
     "Span 10 20",
     "SPAN 10 20",
     "spans 10 20",
@@ -130,7 +146,6 @@ pub const OTHER_FORMS: [&str; 180] = [
     "weekday mondays",
     "weekday 1.",
     "tithi",
-    "tithi 3 4",
     "tithi 30 30",
     "tithi -1",
     "tithi +1",
@@ -159,7 +174,6 @@ pub const OTHER_FORMS: [&str; 180] = [
     "nakshatra",
     "yoga 1:2:3",
     "yoga 1 1",
-    "karana 3",
     "rahu 1 2",
     "Mars 1 2",
     "sun",
@@ -261,16 +275,65 @@ pub const OTHER_FORMS: [&str; 180] = [
     "jupiter 0 3600 0 3600 0 3600",
     "venus 0 3600 -5 5",
     "saturn 5 5 1234567890 5",
-    "tithi 3 4 5",
     "tithi 30 30 30 30",
-    "nakshatra 1 2 3 4 5",
-    "yoga 1 2 3 4 5 6 7 8",
     "span 10 20 30 40",
     "edition 2 2 2",
     "edition 3 3 3 3",
     "rahu 1 2 3 4",
-    "karana 1 2 3 4 5 6 7 8",
     "weekdays monday tuesday",
+    "tithi 3 3",
+    "tithi 3 03",
+    "tithi 30 4 30",
+    "tithi 3 4 x",
+    "tithi 3 4,5",
+    "tithi 3-4",
+    "tithi 3:4:5 6",
+    "tithi 3 0000000004",
+    "tithi 99 3 3",
+    "tithi 3 99 3",
+    "tithi 0 1 2 3 4 5 6 7 8 9 10 11 12 13 14 15 16 17 18 19 20 21 22 23 24 25 26 27 28 29 0",
+    "tithi 29 0 1 2 3 4 5 6 7 8 9 10 11 12 13 14 15 16 17 18 19 20 21 22 23 24 25 26 27 28 29",
+    "tithi 40 40 40 40 40 40 40 40 40 40 40 40 40 40 40 40 40 40 40 40 40 40 40 40 40 40 40 40 40 40 40",
+    "nakshatra 26 26",
+    "nakshatra 27 27",
+    "nakshatra 1 2 3 2",
+    "nakshatra 7 pushya",
+    "yoga 0 1 0",
+    "yoga 28 28",
+    "yoga 4 -5",
+    "karana",
+    "karana 7 7",
+    "karana 0 0",
+    "karana 12 12",
+    "karana 1 2 3 4 5 6 7 8 9 10 11 1",
+    "karana bava",
+    "karana 7:0:0",
+    "karanas 7",
+    "Karana 7",
+    "rahu 0 1 2 3 4 5 6 7 8 9 10 11 12 13 14 15 16 17 18 19 20 21 22 23 24 25 26 27 28 29 30",
+    "true_sun",
+    "true_sun 5",
+    "true_sun 1 2 3",
+    "true_sun 1 2 3 4 5",
+    "true_sun x 5",
+    "true_sun 5 1:60:0",
+    "true_moon 1 2 3 x",
+    "true_mars 1000:0:0 5",
+    "true_mercury -5 5",
+    "true_jupiter 1-2-3 5",
+    "true_venus 5 1:2",
+    "true_saturn 0 3600 0 3600 0 3600",
+    "true_apogee 0 3600",
+    "true_node 0 3600",
+    "true_ 0 3600",
+    "true 0 3600",
+    "true_suns 0 3600",
+    "True_sun 0 3600",
+    "TRUE_SUN 0 3600",
+    "true-sun 0 3600",
+    "true sun 0 3600",
+    "truesun 0 3600",
+    "true_rahu 1 2 3 4",
 ];
 
 /// Refused with 14.
@@ -347,7 +410,7 @@ pub const REVERSED: [&str; 7] = [
 ];
 
 /// Refused with 6.
-pub const BAD_CONDITIONS: [&str; 52] = [
+pub const BAD_CONDITIONS: [&str; 84] = [
     "weekday 7",
     "weekday 257",
     "weekday 999999999",
@@ -400,6 +463,38 @@ pub const BAD_CONDITIONS: [&str; 52] = [
     "jupiter 1296000 0 0 1296001",
     "venus 0 1296000 999999999 999999999",
     "saturn 999999999 1 2 3",
+    "tithi 3 30",
+    "tithi 30 31",
+    "tithi 31 31",
+    "tithi 31 32 33",
+    "tithi 40 3 40",
+    "tithi 0 32",
+    "tithi 999999999 1 2 3",
+    "tithi 64 96 128",
+    "nakshatra 7 27",
+    "nakshatra 27 28 29 30",
+    "nakshatra 26 32 58",
+    "yoga 27 0",
+    "yoga 4 256 256",
+    "karana 0",
+    "karana 12",
+    "karana 0 7",
+    "karana 7 0",
+    "karana 11 12",
+    "karana 1 2 3 4 5 6 7 8 9 10 11 12",
+    "karana 31",
+    "karana 32 33",
+    "karana 999999999",
+    "true_sun 1296000 1",
+    "true_sun 0 1296001",
+    "true_sun 5 0",
+    "true_moon 360:0:0 1",
+    "true_moon 0 3600 0 0",
+    "true_mars 0 3600 1296000 5",
+    "true_mercury 0 360:0:1",
+    "true_jupiter 999999999 999999999",
+    "true_venus 0 1296000 0 1296001",
+    "true_saturn 0 0 0 0",
 ];
 
 const BLANKS: [&str; 8] = [" ", " ", " ", "\t", "\r", "   ", " \t ", "\r \r"];
@@ -465,21 +560,22 @@ fn angle(random: &mut Random, seconds: u32) -> String {
     }
 }
 
-fn weekday(random: &mut Random, weekday: u32) -> String {
-    if random.once_in(2) {
-        number(random, weekday)
+/// A number of a set, or a weekday's name.
+fn value(random: &mut Random, at: usize, value: u32) -> String {
+    if at == WEEKDAY && !random.once_in(2) {
+        WEEKDAYS[value as usize].to_string()
     } else {
-        WEEKDAYS[weekday as usize].to_string()
+        number(random, value)
     }
 }
 
-/// The weekdays of a set, in any order.
-pub fn weekdays(random: &mut Random, set: u32) -> Vec<String> {
-    let mut left: Vec<u32> = (0..7).filter(|weekday| set >> weekday & 1 == 1).collect();
+/// The numbers of a set, in any order.
+pub fn values_of(random: &mut Random, at: usize, set: u32) -> Vec<String> {
+    let mut left: Vec<u32> = (0..31).filter(|number| set >> number & 1 == 1).collect();
     let mut values = Vec::new();
     while !left.is_empty() {
         let next = left.swap_remove(random.below(left.len() as u32) as usize);
-        values.push(weekday(random, next));
+        values.push(value(random, at, next));
     }
     values
 }
@@ -496,17 +592,9 @@ pub fn lines_of(random: &mut Random, almanac: &Almanac, query: &Query) -> Vec<Li
     if query.edition != 1 || random.once_in(2) {
         add("edition", vec![number(random, query.edition)]);
     }
-    if let Some(set) = query.weekdays {
-        add("weekday", weekdays(random, set));
-    }
-    let limbs = [
-        ("tithi", query.tithi),
-        ("nakshatra", query.nakshatra),
-        ("yoga", query.yoga),
-    ];
-    for (word, limb) in limbs {
-        if let Some(value) = limb {
-            add(word, vec![number(random, value)]);
+    for (at, set) in query.sets.into_iter().enumerate() {
+        if let Some(set) = set {
+            add(SETS[at], values_of(random, at, set));
         }
     }
     for (word, arcs) in BODIES.into_iter().zip(query.arcs) {

@@ -3,31 +3,20 @@
 
 use crate::checks::Checks;
 use crate::random::Random;
-use crate::reference::almanac::Almanac;
+use crate::reference::almanac::{Almanac, Day};
 use crate::reference::days::LAST_DAY;
 use crate::reference::edition::Edition;
-use crate::reference::panchanga::Elements;
-use crate::reference::search::Query;
+use crate::reference::search::{set_of, Query, WEEKDAY};
 
 use super::{general_search, look, EDITIONS, NO_EDITIONS};
 
-/// A limb that a query can ask for: where it stands, and how to ask for it.
-pub type Limb = (fn(&Elements) -> u32, fn(&mut Query, u32));
-
-pub const LIMBS: [Limb; 3] = [
-    (
-        |elements| elements.tithi,
-        |query, value| query.tithi = Some(value),
-    ),
-    (
-        |elements| elements.nakshatra,
-        |query, value| query.nakshatra = Some(value),
-    ),
-    (
-        |elements| elements.yoga,
-        |query, value| query.yoga = Some(value),
-    ),
-];
+/// For a day, each limb that differs from edition to edition: which of a query's sets asks for it, and
+/// its number in either.
+pub fn differing(day: &Day) -> impl Iterator<Item = (usize, [u32; 2])> {
+    let [first, second] = [Edition::First, Edition::Second].map(|edition| day.numbers(edition));
+    let limbs = (WEEKDAY + 1..5).map(move |limb| (limb, [first[limb], second[limb]]));
+    limbs.filter(|(_, [first, second])| first != second)
+}
 
 /// A query's search, and its look at a day and at those beside it, in both editions and one that there
 /// isn't.
@@ -60,17 +49,12 @@ fn fits_in(almanac: &Almanac, query: &Query, day: u32) -> [bool; 2] {
 pub fn run(checks: &mut Checks, almanac: &Almanac) {
     let mut random = Random::from_seed();
     for day in almanac.parted().iter().copied() {
-        let [first, second] = [Edition::First, Edition::Second]
-            .map(|edition| almanac.days()[day as usize].elements(edition));
-        for (limb, ask) in LIMBS {
-            if limb(first) == limb(second) {
-                continue;
-            }
-            for (elements, fits) in [(first, [true, false]), (second, [false, true])] {
+        for (limb, numbers) in differing(&almanac.days()[day as usize]) {
+            for (number, fits) in numbers.into_iter().zip([[true, false], [false, true]]) {
                 let beside = random.one_of(&[0, 0, 1, 20]);
                 let span = (day.saturating_sub(beside), LAST_DAY.min(day + beside));
                 let mut query = Query::without_conditions(span.0, span.1);
-                ask(&mut query, limb(elements));
+                query.sets[limb] = Some(set_of(&[number]));
                 let input = || format!("day {day}, {query:?}");
                 let came = fits_in(almanac, &query, day);
                 checks.same("the day fits in one edition", input, fits, came);

@@ -74,7 +74,9 @@ fn compare_complaint(
 ) {
     let about = "what its standard error is about";
     match complaint {
-        Complaint::Nothing => return checks.same("its standard error", input, "", error),
+        Complaint::Remarks(said) => {
+            return checks.same_lines("its standard error", input, &said, error);
+        }
         Complaint::OfLine(number, reasons) => {
             let start = format!("line {number}: ");
             let reason = error.strip_prefix(&start).unwrap_or_default().trim_end();

@@ -1,4 +1,4 @@
-//! Spans, sets of weekdays, arcs and whole queries to search for: at the edges, and random.
+//! Spans, sets, arcs and whole queries to search for: at the edges, and random.
 
 use std::ops::Range;
 
@@ -7,7 +7,7 @@ use crate::reference::almanac::{Almanac, Day};
 use crate::reference::days::LAST_DAY;
 use crate::reference::edition::Edition;
 use crate::reference::longitudes::SUN;
-use crate::reference::search::{set_of, Arc, Arcs, Query};
+use crate::reference::search::{set_of, Arc, Arcs, Query, KARANA, RANGES, WEEKDAY};
 
 pub use crate::reference::span::Span;
 
@@ -37,8 +37,8 @@ pub const REFUSED_ARCS: [Arc; 7] = [
     Arc::new(1 << 31, 1 << 31),
 ];
 
-/// Sets that are refused with 6: the empty one, and such as have more than the seven weekdays.
-pub const REFUSED_SETS: [u32; 12] = [
+/// Sets of weekdays that are refused with 6: the empty one, and such as have more than the seven.
+const REFUSED_SETS: [u32; 12] = [
     0,
     128,
     129,
@@ -53,31 +53,103 @@ pub const REFUSED_SETS: [u32; 12] = [
     u32::MAX,
 ];
 
-/// Which queries are drawn: in an edition, with one weekday and one arc for a body as before L9, or
-/// smudged.
+/// The conditions of a query, by the bits of a number: four sets, the arcs of nine mean places, and
+/// behind these, as P1 has them, the arcs of seven true places and the set of karanas.
+const KARANA_BIT: usize = 20;
+
+/// How much of a page is left.
+#[derive(Clone, Copy, PartialEq)]
+enum Form {
+    /// One weekday, one number of each limb, and one arc for a body, as before L9.
+    Plain,
+    /// L9's sets of weekdays and second arcs.
+    Smudged,
+    /// P1's sets of limbs, karanas and true places too.
+    HalfRead,
+}
+
+/// Which queries are drawn, in an edition.
 #[derive(Clone, Copy)]
 pub struct Kind {
     edition: u32,
-    pub smudged: bool,
+    form: Form,
 }
 
 impl Kind {
-    pub fn all() -> impl Iterator<Item = Kind> {
-        [false, true]
-            .into_iter()
-            .flat_map(|smudged| EDITIONS.map(|edition| Kind { edition, smudged }))
+    fn of(forms: &[Form]) -> Vec<Kind> {
+        let kinds = forms.iter().flat_map(|form| {
+            EDITIONS.map(|edition| Kind {
+                edition,
+                form: *form,
+            })
+        });
+        kinds.collect()
     }
 
-    /// So many rounds, and half as many with smudged queries.
+    /// Those without P1's conditions.
+    pub fn all() -> Vec<Kind> {
+        Kind::of(&[Form::Plain, Form::Smudged])
+    }
+
+    pub fn half_read() -> Vec<Kind> {
+        Kind::of(&[Form::HalfRead])
+    }
+
+    pub fn smudged(self) -> bool {
+        self.form != Form::Plain
+    }
+
+    /// So many rounds, and half as many with other than plain queries.
     pub fn rounds(self, rounds: u32) -> Range<u32> {
-        0..if self.smudged { rounds / 2 } else { rounds }
+        0..if self.smudged() { rounds / 2 } else { rounds }
+    }
+
+    /// How many conditions a query can have.
+    pub fn conditions(self) -> u32 {
+        if self.form == Form::HalfRead {
+            21
+        } else {
+            13
+        }
+    }
+
+    /// Every combination of conditions given and not given; of half-read queries, of P1's conditions
+    /// alone, each a few times with some of the others.
+    pub fn combinations(self, random: &mut Random) -> Vec<u32> {
+        if self.form != Form::HalfRead {
+            return (0..1 << 13).collect();
+        }
+        let each = (0..1 << 8).flat_map(|given| [given << 13; 6]);
+        each.map(|given| given | random.below(1 << 13) & random.number() & random.number())
+            .collect()
+    }
+
+    /// Any conditions.
+    pub fn any(self, random: &mut Random) -> u32 {
+        let any = random.below(1 << self.conditions());
+        // All of 21 conditions together are seldom met by any day.
+        if self.form == Form::HalfRead && random.once_in(2) {
+            any & random.number()
+        } else {
+            any
+        }
+    }
+
+    /// One condition or two.
+    pub fn few(self, random: &mut Random) -> u32 {
+        1 << random.below(self.conditions()) | 1 << random.below(self.conditions())
     }
 
     /// A query with these conditions, over a span of so many days at most.
     pub fn draw(self, random: &mut Random, almanac: &Almanac, given: u32, most: u32) -> Query {
         let mut query = random_query(random, almanac, self.edition, given, most);
-        if self.smudged {
+        if self.smudged() {
             smudge(random, almanac, &mut query);
+        }
+        if self.form == Form::HalfRead {
+            for limb in WEEKDAY + 1..5 {
+                query.sets[limb] = query.sets[limb].map(|set| smudged_set(random, limb, set));
+            }
         }
         query
     }
@@ -179,18 +251,25 @@ pub fn arc_ahead(random: &mut Random, almanac: &Almanac, day: u32) -> Arc {
     )
 }
 
-/// The day's own value mostly, else any in range.
-fn value_near(random: &mut Random, own: u32, values: u32) -> u32 {
+/// The set of all numbers in a range.
+pub fn whole_set(at: usize) -> u32 {
+    let (least, largest) = RANGES[at];
+    set_of(&Vec::from_iter(least..=largest))
+}
+
+/// The set of the day's own number mostly, else of any in range.
+fn set_near(random: &mut Random, at: usize, own: u32) -> u32 {
+    let (least, largest) = RANGES[at];
     if random.once_in(8) {
-        random.below(values)
+        set_of(&[least + random.below(largest + 1 - least)])
     } else {
-        own
+        set_of(&[own])
     }
 }
 
-/// A query in an edition, whose given conditions are the bits of `given`: a weekday and three values, then the nine
-/// bodies' first arcs. Mostly they are chosen so that one day of the span meets them all; every eighth time they are
-/// that day's in either edition.
+/// A query in an edition, with the conditions that are the bits of `given`: sets of one number each, and bodies' first
+/// arcs. Mostly they are chosen so that one day of the span meets them all; every eighth time they are that day's in
+/// either edition.
 pub fn random_query(
     random: &mut Random,
     almanac: &Almanac,
@@ -207,16 +286,16 @@ pub fn random_query(
     if random.once_in(8) {
         named = random.one_of(&[Edition::First, Edition::Second]);
     }
-    let elements = target.elements(named);
-    query.weekdays = asked(0).then(|| set_of(&[value_near(random, target.weekday, 7)]));
-    query.tithi = asked(1).then(|| value_near(random, elements.tithi, 30));
-    query.nakshatra = asked(2).then(|| value_near(random, elements.nakshatra, 27));
-    query.yoga = asked(3).then(|| value_near(random, elements.yoga, 27));
-    for body in 0..9 {
+    let own = target.numbers(named);
+    for at in 0..5 {
+        let bit = if at == KARANA { KARANA_BIT } else { at };
+        query.sets[at] = asked(bit).then(|| set_near(random, at, own[at]));
+    }
+    for body in 0..16 {
         query.arcs[body].first = asked(4 + body).then(|| match random.below(16) {
             0 => random_arc(random),
             1..=3 if body == SUN => arc_ahead(random, almanac, first),
-            _ => arc_around(random, target.mean[body]),
+            _ => arc_around(random, target.place(body, named)),
         });
     }
     query
@@ -267,20 +346,22 @@ fn smudged_arcs(random: &mut Random, arc: Arc, other: Arc) -> Arcs {
     }
 }
 
-/// A set of weekdays made of a single one's: the same, all, all others, or some more.
-fn smudged_set(random: &mut Random, set: u32) -> u32 {
+/// A set made of a single number's: the same, all, all others, or some more.
+fn smudged_set(random: &mut Random, at: usize, set: u32) -> u32 {
+    let all = whole_set(at);
     match random.below(8) {
         0 => set,
-        1 => 127,
-        2 => 127 - set,
-        _ => set | random.below(128) & random.below(128),
+        1 => all,
+        2 => all - set,
+        _ => set | random.number() & random.number() & all,
     }
 }
 
 /// L9: gives a query more weekdays, and its bodies one or two arcs.
 fn smudge(random: &mut Random, almanac: &Almanac, query: &mut Query) {
-    query.weekdays = query.weekdays.map(|set| smudged_set(random, set));
-    for body in 0..9 {
+    let weekdays = &mut query.sets[WEEKDAY];
+    *weekdays = weekdays.map(|set| smudged_set(random, WEEKDAY, set));
+    for body in 0..16 {
         if let Some(arc) = query.arcs[body].first {
             let other = match random.below(4) {
                 0 if body == SUN => arc_ahead(random, almanac, query.first),
@@ -300,12 +381,17 @@ pub fn at_range_ends((first, last): Span, past: u32) -> Vec<Query> {
         set(&mut query);
         queries.push(query);
     };
-    add(&|query| query.weekdays = Some(1 - past));
-    add(&|query| query.weekdays = Some(127 + past));
-    add(&|query| query.tithi = Some(29 + past));
-    add(&|query| query.nakshatra = Some(26 + past));
-    add(&|query| query.yoga = Some(26 + past));
-    for body in 0..9 {
+    for (at, (least, largest)) in RANGES.into_iter().enumerate() {
+        let [one, all] = [set_of(&[least]), whole_set(at)];
+        add(&|query| query.sets[at] = Some(one * (1 - past)));
+        add(&|query| query.sets[at] = Some(all + past * set_of(&[largest + 1])));
+        add(&|query| query.sets[at] = Some(set_of(&[largest + past])));
+        if at == KARANA {
+            add(&|query| query.sets[at] = Some(set_of(&[1 - past])));
+            add(&|query| query.sets[at] = Some(all + past));
+        }
+    }
+    for body in 0..16 {
         for (start, width) in [
             (1_295_999 + past, 1),
             (600_000, 1 - past),
@@ -325,21 +411,34 @@ pub fn at_range_ends((first, last): Span, past: u32) -> Vec<Query> {
     queries
 }
 
+/// A set that is refused with 6.
+fn refused_set(random: &mut Random, at: usize) -> u32 {
+    let (least, largest) = RANGES[at];
+    let past = 1 << random.between(largest + 1, 31);
+    let sound = random.number() & whole_set(at);
+    match random.below(6) {
+        _ if at == WEEKDAY => random.one_of(&REFUSED_SETS),
+        0 => 0,
+        1 => past,
+        2 => u32::MAX,
+        3 if least > 0 => 1,
+        4 if least > 0 => sound | 1,
+        _ => sound | past,
+    }
+}
+
 /// Puts one or more of a query's given conditions out of range, or its span, or its edition.
 pub fn spoil(random: &mut Random, query: &mut Query) {
-    let too_large = |random: &mut Random, largest: u32| {
-        random.one_of(&[largest + 1, largest + 256, 1 << 31, u32::MAX])
-    };
     for _ in 0..random.between(1, 3) {
-        match random.below(15) {
-            0 => query.weekdays = Some(random.one_of(&REFUSED_SETS)),
-            1 => query.tithi = Some(too_large(random, 29)),
-            2 => query.nakshatra = Some(too_large(random, 26)),
-            3 => query.yoga = Some(too_large(random, 26)),
-            4 => (query.first, query.last) = random.one_of(&REFUSED_SPANS),
-            5 => query.edition = random.one_of(&NO_EDITIONS),
+        match random.below(23) {
+            at @ 0..=4 => {
+                let at = at as usize;
+                query.sets[at] = Some(refused_set(random, at));
+            }
+            5 => (query.first, query.last) = random.one_of(&REFUSED_SPANS),
+            6 => query.edition = random.one_of(&NO_EDITIONS),
             body => {
-                let arcs = &mut query.arcs[body as usize - 6];
+                let arcs = &mut query.arcs[body as usize - 7];
                 let refused = Some(random.one_of(&REFUSED_ARCS));
                 if random.once_in(2) {
                     arcs.first = refused;

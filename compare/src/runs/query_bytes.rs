@@ -1,13 +1,14 @@
-//! A query as the bridge takes it: 65 numbers of four bytes each, low byte first. They are first,
-//! last; then for the weekdays "given" (0 is no, any other number yes) and the set, and for tithi,
-//! nakshatra and yoga "given" and the value; then for each body its first arc's "given", start and
-//! width; then the edition; and last for each body its second arc's "given", start and width.
+//! A query as the bridge takes it: 109 numbers of four bytes each, low byte first. They are first,
+//! last; then for the weekdays "given" (0 is no, any other number yes) and the set, and so for tithi,
+//! nakshatra and yoga; then for each body its first arc's "given", start and width; then the edition;
+//! then for each body its second arc's "given", start and width; then karana's "given" and set; and
+//! last for each true place its first arc's three numbers and its second arc's.
 
 use crate::random::Random;
-use crate::reference::search::{Arc, Query};
+use crate::reference::search::{Arc, Query, KARANA};
 
 /// Bytes of another length are refused with 3.
-pub const QUERY_LENGTH: usize = 260;
+pub const QUERY_LENGTH: usize = 436;
 
 /// "Given" and the numbers of a condition; where it isn't given the numbers are any.
 fn encode_condition<const N: usize>(
@@ -27,20 +28,30 @@ fn encode_condition<const N: usize>(
     }
 }
 
+fn encode_set(random: &mut Random, numbers: &mut Vec<u32>, set: Option<u32>) {
+    encode_condition(random, numbers, set.map(|set| [set]));
+}
+
+fn encode_arc(random: &mut Random, numbers: &mut Vec<u32>, arc: Option<Arc>) {
+    encode_condition(random, numbers, arc.map(|arc| [arc.start, arc.width]));
+}
+
 pub fn encode(random: &mut Random, query: &Query) -> Vec<u8> {
+    let (mean, places) = query.arcs.split_at(9);
     let mut numbers = vec![query.first, query.last];
-    for value in [query.weekdays, query.tithi, query.nakshatra, query.yoga] {
-        encode_condition(random, &mut numbers, value.map(|value| [value]));
+    for set in &query.sets[..KARANA] {
+        encode_set(random, &mut numbers, *set);
     }
-    let mut encode_arc = |numbers: &mut Vec<u32>, arc: Option<Arc>| {
-        encode_condition(random, numbers, arc.map(|arc| [arc.start, arc.width]));
-    };
-    for arcs in query.arcs {
-        encode_arc(&mut numbers, arcs.first);
+    for arcs in mean {
+        encode_arc(random, &mut numbers, arcs.first);
     }
     numbers.push(query.edition);
-    for arcs in query.arcs {
-        encode_arc(&mut numbers, arcs.second);
+    for arcs in mean {
+        encode_arc(random, &mut numbers, arcs.second);
+    }
+    encode_set(random, &mut numbers, query.sets[KARANA]);
+    for arc in places.iter().flat_map(|arcs| [arcs.first, arcs.second]) {
+        encode_arc(random, &mut numbers, arc);
     }
     numbers.into_iter().flat_map(u32::to_le_bytes).collect()
 }
@@ -71,10 +82,11 @@ pub fn numbers(bytes: &[u8]) -> Vec<u32> {
 /// or not.
 pub fn arcs_in(bytes: &[u8], body: usize) -> [[u32; 2]; 2] {
     let numbers = numbers(bytes);
-    [10, 38].map(|first_body| {
-        let given = first_body + 3 * body;
-        [numbers[given + 1], numbers[given + 2]]
-    })
+    let given = match body.checked_sub(9) {
+        None => [10, 38].map(|first_body| first_body + 3 * body),
+        Some(place) => [67, 70].map(|first_place| first_place + 6 * place),
+    };
+    given.map(|given| [numbers[given + 1], numbers[given + 2]])
 }
 
 /// A query's bytes for a message.

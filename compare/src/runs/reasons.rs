@@ -11,23 +11,24 @@ use crate::reference::almanac::{Almanac, Day};
 use crate::reference::days::LAST_DAY;
 use crate::reference::edition::Edition;
 use crate::reference::longitudes::{MOON, SUN};
-use crate::reference::reasons::{why, Asked, Reason, Why};
+use crate::reference::reasons::{of_arcs, of_set, why, Asked, Reason, Why};
 use crate::reference::refusal::{
     result_number, Answer, BAD_CONDITION, BAD_INPUT, LAST_BEFORE_FIRST, NO_SUCH_EDITION,
     OUT_OF_RANGE,
 };
-use crate::reference::search::{set_of, Arc, Arcs, Query};
+use crate::reference::search::{set_of, Arc, Arcs, Query, RANGES, WEEKDAY};
 
 use super::look::days_about;
-use super::parted::LIMBS;
+use super::parted::differing;
 use super::queries::{
-    arc_around, at_range_ends, random_arc, random_width, spoil, Kind, Span, REFUSED_SPANS,
+    arc_around, at_range_ends, random_arc, random_width, spoil, whole_set, Kind, Span,
+    REFUSED_SPANS,
 };
 use super::query_bytes::{arcs_in, encode, numbers, other_lengths, shown};
 use super::{EDITIONS, NO_DAYS, NO_EDITIONS};
 
 /// The conditions' numbers go from 1 to this one; 0 is said where the day fits.
-pub const LAST_CONDITION: u32 = 15;
+pub const LAST_CONDITION: u32 = 23;
 
 /// Each case has to be reached so many times.
 const OFTEN: u64 = 500;
@@ -75,7 +76,7 @@ impl Reached {
         let accepted = EDITIONS.into_iter().flat_map(|edition| {
             (0..=LAST_CONDITION).map(move |condition| Case::Accepted { edition, condition })
         });
-        let arcs = (0..9).flat_map(|body| {
+        let arcs = (0..16).flat_map(|body| {
             let forms = [[true, false], [false, true], [true, true]];
             forms.map(|given| Case::Arcs { body, given })
         });
@@ -105,12 +106,7 @@ struct Run<'a> {
 /// The six values asked. What stands in an arc that isn't given is told as it stands in the query.
 fn values(asked: Asked, query: &[u8]) -> [u32; 6] {
     match asked {
-        Asked::From(value)
-        | Asked::To(value)
-        | Asked::Weekdays(value)
-        | Asked::Tithi(value)
-        | Asked::Nakshatra(value)
-        | Asked::Yoga(value) => [value, 0, 0, 0, 0, 0],
+        Asked::From(value) | Asked::To(value) | Asked::Set(_, value) => [value, 0, 0, 0, 0, 0],
         Asked::Arcs(body, arcs) => {
             let values = |arc: Option<Arc>, [start, width]: [u32; 2]| match arc {
                 Some(arc) => [1, arc.start, arc.width],
@@ -135,46 +131,65 @@ fn listed(checks: &mut Checks, query: &[u8]) -> Vec<u32> {
     numbers(&list)
 }
 
+/// One day. True if it is said to fit.
+fn compare_bytes(checks: &mut Checks, expected: &Answer<Why>, query: &[u8], day: u32) -> bool {
+    let reason = expected.as_ref().ok().and_then(|why| why.reason);
+    let condition = reason.map_or(0, |reason| reason.condition);
+    let asked = reason.map_or([0; 6], |reason| values(reason.asked, query));
+    let found = reason.map_or(0, |reason| reason.found);
+    let edition = expected.as_ref().map_or(0, |why| why.edition.number());
+    let (bytes, length) = (query.as_ptr(), query.len());
+    let input = || format!("day {day}, {}", shown(query));
+    let behind = BEHIND[day as usize % BEHIND.len()];
+    unsafe {
+        let result = bridge_why_result(bytes, length, day);
+        let condition_came = bridge_why_condition(bytes, length, day);
+        let value = |index| bridge_why_asked(bytes, length, day, index);
+        checks.same("bridge_why_result", input, result_number(expected), result);
+        checks.same(
+            "bridge_why_edition",
+            input,
+            edition,
+            bridge_why_edition(bytes, length, day),
+        );
+        checks.same("bridge_why_condition", input, condition, condition_came);
+        checks.same(
+            "bridge_why_asked",
+            input,
+            asked,
+            [0, 1, 2, 3, 4, 5].map(value),
+        );
+        let input_behind = || format!("index {behind}, {}", input());
+        checks.same("bridge_why_asked", input_behind, 0, value(behind));
+        checks.same(
+            "bridge_why_found",
+            input,
+            found,
+            bridge_why_found(bytes, length, day),
+        );
+        result == 0 && condition_came == 0
+    }
+}
+
+/// For other parts: some days, without counting what is reached.
+pub fn compare(
+    checks: &mut Checks,
+    almanac: &Almanac,
+    random: &mut Random,
+    query: &Query,
+    days: impl IntoIterator<Item = u32>,
+) {
+    let bytes = encode(random, query);
+    for day in days {
+        compare_bytes(checks, &why(almanac, query, day), &bytes, day);
+    }
+}
+
 impl Run<'_> {
     /// One day. True if it is said to fit.
     fn compare_bytes(&mut self, expected: &Answer<Why>, query: &[u8], day: u32) -> bool {
         self.reached.count(expected);
-        let reason = expected.as_ref().ok().and_then(|why| why.reason);
-        let condition = reason.map_or(0, |reason| reason.condition);
-        let asked = reason.map_or([0; 6], |reason| values(reason.asked, query));
-        let found = reason.map_or(0, |reason| reason.found);
-        let edition = expected.as_ref().map_or(0, |why| why.edition.number());
-        let (checks, bytes, length) = (&mut *self.checks, query.as_ptr(), query.len());
-        let input = || format!("day {day}, {}", shown(query));
-        let behind = BEHIND[day as usize % BEHIND.len()];
-        unsafe {
-            let result = bridge_why_result(bytes, length, day);
-            let condition_came = bridge_why_condition(bytes, length, day);
-            let value = |index| bridge_why_asked(bytes, length, day, index);
-            checks.same("bridge_why_result", input, result_number(expected), result);
-            checks.same(
-                "bridge_why_edition",
-                input,
-                edition,
-                bridge_why_edition(bytes, length, day),
-            );
-            checks.same("bridge_why_condition", input, condition, condition_came);
-            checks.same(
-                "bridge_why_asked",
-                input,
-                asked,
-                [0, 1, 2, 3, 4, 5].map(value),
-            );
-            let input_behind = || format!("index {behind}, {}", input());
-            checks.same("bridge_why_asked", input_behind, 0, value(behind));
-            checks.same(
-                "bridge_why_found",
-                input,
-                found,
-                bridge_why_found(bytes, length, day),
-            );
-            result == 0 && condition_came == 0
-        }
+        compare_bytes(self.checks, expected, query, day)
     }
 
     fn compare(&mut self, query: &Query, days: impl IntoIterator<Item = u32>) {
@@ -223,8 +238,8 @@ impl Run<'_> {
     /// Any conditions, half of the time few, on days in the span and about it.
     fn drawn(&mut self, kind: Kind) {
         for round in kind.rounds(3000) {
-            let given = self.random.below(1 << 13);
-            let few = 1 << self.random.below(13) | 1 << self.random.below(13);
+            let given = kind.any(&mut self.random);
+            let few = kind.few(&mut self.random);
             let given = if round % 2 == 0 { given } else { few };
             let query = kind.draw(&mut self.random, self.almanac, given, 400);
             let days = days_about(&mut self.random, (query.first, query.last));
@@ -235,7 +250,7 @@ impl Run<'_> {
     /// Any conditions, some of them ill-formed, often with the span or the edition.
     fn refused(&mut self, kind: Kind) {
         for _ in 0..1000 {
-            let given = self.random.below(1 << 13);
+            let given = kind.any(&mut self.random);
             let mut query = kind.draw(&mut self.random, self.almanac, given, 400);
             spoil(&mut self.random, &mut query);
             let days = days_about(&mut self.random, (query.first, query.last));
@@ -246,11 +261,11 @@ impl Run<'_> {
     /// Short spans with any conditions, and longer ones with one or two.
     fn spans(&mut self, kind: Kind) {
         for round in kind.rounds(600) {
-            let few = 1 << self.random.below(13) | 1 << self.random.below(13);
+            let few = kind.few(&mut self.random);
             let (given, most) = match round % 30 {
                 0 => (few, 8000),
                 1..=10 => (few, 400),
-                _ => (self.random.below(1 << 13), 100),
+                _ => (kind.any(&mut self.random), 100),
             };
             let query = kind.draw(&mut self.random, self.almanac, given, most);
             self.compare_span(&query);
@@ -260,13 +275,13 @@ impl Run<'_> {
     /// The whole table, and numbers that are no days, by a few queries.
     fn every_day(&mut self) {
         let mut query = Query::without_conditions(0, LAST_DAY);
-        query.weekdays = Some(set_of(&[0, 1, 4]));
+        query.sets[WEEKDAY] = Some(set_of(&[0, 1, 4]));
         query.arcs[SUN] = Arcs::two(Arc::new(640_000, 36_000), Arc::new(1_295_000, 36_000));
         self.compare_span(&query);
         // Each body is outside its arcs on one day of five or so.
         query = Query::without_conditions(0, LAST_DAY);
         query.edition = 2;
-        for (body, arcs) in query.arcs.iter_mut().enumerate() {
+        for (body, arcs) in query.arcs[..9].iter_mut().enumerate() {
             let [first, second] = [0, 650_000]
                 .map(|more| Arc::new((140_000 * body as u32 + more) % 1_296_000, 520_000));
             *arcs = Arcs::two(first, second);
@@ -303,19 +318,14 @@ impl Run<'_> {
     /// edition, and in the other one that limb shuts it out.
     fn parted(&mut self) {
         for day in self.almanac.parted().iter().copied() {
-            let own = &self.almanac.days()[day as usize];
-            let elements = [Edition::First, Edition::Second].map(|edition| own.elements(edition));
-            for (limb, ask) in LIMBS {
-                if limb(elements[0]) == limb(elements[1]) {
-                    continue;
-                }
-                for (elements, edition) in elements
+            for (limb, numbers) in differing(&self.almanac.days()[day as usize]) {
+                for (number, edition) in numbers
                     .into_iter()
-                    .flat_map(|elements| EDITIONS.map(|edition| (elements, edition)))
+                    .flat_map(|number| EDITIONS.map(|edition| (number, edition)))
                 {
                     let mut query = Query::without_conditions(0, LAST_DAY);
                     query.edition = edition;
-                    ask(&mut query, limb(elements));
+                    query.sets[limb] = Some(set_of(&[number]));
                     self.compare(&query, [day]);
                 }
             }
@@ -349,26 +359,19 @@ fn span_for(random: &mut Random, day: u32, condition: u32) -> Span {
     }
 }
 
-/// A set with a weekday, or without it; never an empty one.
-fn set_for(random: &mut Random, weekday: u32, met: bool) -> u32 {
-    let own = set_of(&[weekday]);
-    let more = random.below(128) & random.below(128);
+/// A set with a number, or without it; never an empty one. Often it has one number alone, and if that
+/// isn't the day's own its neighbour.
+fn set_for(random: &mut Random, at: usize, own: u32, met: bool) -> u32 {
+    let (least, largest) = RANGES[at];
+    let count = largest + 1 - least;
+    let more = random.number() & random.one_of(&[0, whole_set(at)]) & random.number();
+    let any = random.between(1, count - 1);
+    let ahead = random.one_of(&[1, count - 1, any]);
     if met {
-        own | more
+        set_of(&[own]) | more
     } else {
-        let other = set_of(&[(weekday + random.between(1, 6)) % 7]);
-        other | more & (127 - own)
-    }
-}
-
-/// A value, or another of so many; often its neighbour.
-fn value_for(random: &mut Random, own: u32, values: u32, met: bool) -> u32 {
-    let any = random.between(1, values - 1);
-    let ahead = random.one_of(&[1, values - 1, any]);
-    if met {
-        own
-    } else {
-        (own + ahead) % values
+        let other = least + (own - least + ahead) % count;
+        set_of(&[other]) | more & !set_of(&[own])
     }
 }
 
@@ -396,6 +399,15 @@ fn arcs_for(random: &mut Random, place: u32, met: bool) -> Arcs {
     }
 }
 
+/// P1: karana stands before the arcs of mean places in the order in which conditions are tested.
+fn place_in_order(condition: u32) -> u32 {
+    match condition {
+        7..=15 => condition + 1,
+        16 => 7,
+        _ => condition,
+    }
+}
+
 /// A query and a day that it shuts out, first by the condition of this number; or, with 0, a day that
 /// fits. What comes before that condition is met or not given, and what comes behind may be anything.
 pub fn shutting_out(
@@ -408,7 +420,7 @@ pub fn shutting_out(
     let any = random.below(LAST_DAY + 1);
     let number = random.one_of(&[parted, any, any]).clamp(1, LAST_DAY - 1);
     let day: &Day = &almanac.days()[number as usize];
-    let elements = day.elements(Edition::numbered(edition).expect("an edition"));
+    let named = Edition::numbered(edition).expect("an edition");
     let (first, last) = span_for(random, number, condition);
     let mut query = Query::without_conditions(first, last);
     query.edition = edition;
@@ -417,15 +429,14 @@ pub fn shutting_out(
         _ if other == condition => Some(false),
         0 => None,
         1 => Some(true),
-        _ => Some(condition == 0 || other < condition),
+        _ => Some(condition == 0 || place_in_order(other) < place_in_order(condition)),
     };
-    query.weekdays = met(random, 3).map(|met| set_for(random, day.weekday, met));
-    query.tithi = met(random, 4).map(|met| value_for(random, elements.tithi, 30, met));
-    query.nakshatra = met(random, 5).map(|met| value_for(random, elements.nakshatra, 27, met));
-    query.yoga = met(random, 6).map(|met| value_for(random, elements.yoga, 27, met));
-    for body in 0..9 {
-        if let Some(met) = met(random, 7 + body as u32) {
-            query.arcs[body] = arcs_for(random, day.mean[body], met);
+    for (at, own) in day.numbers(named).into_iter().enumerate() {
+        query.sets[at] = met(random, of_set(at)).map(|met| set_for(random, at, own, met));
+    }
+    for body in 0..16 {
+        if let Some(met) = met(random, of_arcs(body)) {
+            query.arcs[body] = arcs_for(random, day.place(body, named), met);
         }
     }
     (query, number)
@@ -441,7 +452,7 @@ pub fn run(checks: &mut Checks, almanac: &Almanac) {
     for edition in EDITIONS {
         run.chosen(edition);
     }
-    for kind in Kind::all() {
+    for kind in Kind::all().into_iter().chain(Kind::half_read()) {
         run.drawn(kind);
         run.refused(kind);
         run.spans(kind);

@@ -4,13 +4,13 @@
 use std::collections::BTreeSet;
 
 use crate::checks::Checks;
-use crate::reference::list::{list_after, result_for};
+use crate::reference::list::{first_after, list_after, result_for};
 use crate::reference::refusal::Answer;
 use crate::reference::search::Found;
 
 use super::lent::Lent;
 
-/// One input of a search, and the three calls that take it.
+/// One input of a search, and the calls that take it.
 pub trait SearchCalls {
     /// The names of the three calls: search, length, looked.
     const NAMES: [&'static str; 3];
@@ -18,6 +18,10 @@ pub trait SearchCalls {
     fn search(&self, list: &mut [u8]) -> u32;
     fn length(&self) -> u32;
     fn looked(&self) -> u32;
+    /// The first days alone, as many as the list has entries; the host has no such call.
+    fn list_first(&self, _list: &mut [u8]) -> Option<u32> {
+        None
+    }
     fn input(&self) -> String;
 }
 
@@ -55,7 +59,28 @@ pub fn compare_list(
     list.compare(checks, name, input, &after);
 }
 
-/// All three calls. `most` is the number of entries of the longest list.
+/// The call that lists the first days, with a list of one length.
+fn compare_first<C: SearchCalls>(
+    checks: &mut Checks,
+    calls: &C,
+    expected: Answer<&[u32]>,
+    length: usize,
+) {
+    let name = "bridge_list_first";
+    let mut list = Lent::new(length);
+    let (result, after) = match expected {
+        Ok(days) => (0, first_after(days, list.bytes())),
+        Err(refusal) => (refusal, list.bytes().to_vec()),
+    };
+    let Some(came) = calls.list_first(list.bytes_mut()) else {
+        return;
+    };
+    let input = || format!("{}, a list of {length} bytes", calls.input());
+    checks.same(name, input, result, came);
+    list.compare(checks, name, input, &after);
+}
+
+/// All calls. `most` is the number of entries of the longest list.
 pub fn compare<C: SearchCalls>(
     checks: &mut Checks,
     calls: &C,
@@ -66,7 +91,8 @@ pub fn compare<C: SearchCalls>(
     compare_lists(checks, calls, expected, list_lengths(matching, most));
 }
 
-/// All three calls, the search with a list of each of these lengths in bytes.
+/// All calls, the search with a list of each of these lengths in bytes, and the call for the first days
+/// with every third of them.
 pub fn compare_lists<C: SearchCalls>(
     checks: &mut Checks,
     calls: &C,
@@ -95,8 +121,11 @@ pub fn compare_lists<C: SearchCalls>(
     }
     let days = expected.as_ref().map(|found| &found.matching[..]);
     let days = days.map_err(|refusal| *refusal);
-    for list_length in lengths {
+    for (list_length, at) in lengths.into_iter().zip(0..) {
         let search = |list: &mut [u8]| calls.search(list);
         compare_list(checks, C::NAMES[0], input, search, days, list_length);
+        if at % 3 == 0 {
+            compare_first(checks, calls, days, list_length);
+        }
     }
 }

@@ -6,8 +6,10 @@ use crate::checks::Checks;
 use crate::random::Random;
 use crate::reference::almanac::Almanac;
 use crate::reference::days::LAST_DAY;
+use crate::reference::edition::Edition;
 use crate::reference::longitudes::SUN;
-use crate::reference::search::{Arc, Arcs, Query};
+use crate::reference::planets::TRUE_SUN;
+use crate::reference::search::{Arc, Arcs, Query, WEEKDAY};
 
 use super::queries::{random_arc, random_span, Span};
 use super::{general_search, look, EDITIONS};
@@ -30,7 +32,7 @@ fn sets(checks: &mut Checks, almanac: &Almanac, random: &mut Random, edition: u3
     for set in (0..1024).chain((10..32).flat_map(about)).chain([u32::MAX]) {
         let first = random.below(LAST_DAY - 20);
         let mut query = query_in(edition, (first, first + random.below(20)));
-        query.weekdays = Some(set);
+        query.sets[WEEKDAY] = Some(set);
         if random.once_in(2) {
             query.arcs[SUN] = Arcs::one(Arc::new(random.below(CIRCLE), CIRCLE));
         }
@@ -51,8 +53,8 @@ fn arcs_about(place: u32) -> Vec<Arc> {
 }
 
 /// The days on which a body stands first and last in the circle, and any day.
-fn days_of(almanac: &Almanac, random: &mut Random, body: usize) -> [u32; 3] {
-    let place = |day: &u32| almanac.days()[*day as usize].mean[body];
+fn days_of(almanac: &Almanac, random: &mut Random, body: usize, edition: Edition) -> [u32; 3] {
+    let place = |day: &u32| almanac.days()[*day as usize].place(body, edition);
     let [first, last] = [
         (0..=LAST_DAY).min_by_key(place),
         (0..=LAST_DAY).max_by_key(place),
@@ -63,20 +65,21 @@ fn days_of(almanac: &Almanac, random: &mut Random, body: usize) -> [u32; 3] {
 
 /// Each two of the arcs about a place, for each body, so that they overlap, touch, leave out the place
 /// alone, are the same, or one is within the other, and in many cases cross 0; and each of them alone,
-/// first and second.
+/// first and second. True places have every third pair.
 fn arcs(checks: &mut Checks, almanac: &Almanac, random: &mut Random) {
-    for body in 0..9 {
-        for day in days_of(almanac, random, body) {
-            let about = arcs_about(almanac.days()[day as usize].mean[body]);
+    for body in 0..16 {
+        let edition = random.one_of(&[Edition::First, Edition::Second]);
+        for day in days_of(almanac, random, body, edition) {
+            let about = arcs_about(almanac.days()[day as usize].place(body, edition));
             let mut all = Vec::new();
             for one in &about {
                 all.extend([Arcs::one(*one), Arcs::second_alone(*one)]);
                 all.extend(about.iter().map(|two| Arcs::two(*one, *two)));
             }
-            for arcs in all {
+            for arcs in all.into_iter().step_by(if body < TRUE_SUN { 1 } else { 3 }) {
                 let behind = random.one_of(&[0, 1, 3, 30]);
                 let span = (day.saturating_sub(behind), LAST_DAY.min(day + behind));
-                let mut query = query_in(random.one_of(&EDITIONS), span);
+                let mut query = query_in(edition.number(), span);
                 query.arcs[body] = arcs;
                 general_search::compare(checks, almanac, random, &query);
                 let days = [day.saturating_sub(1), day, day + 1];
@@ -165,7 +168,7 @@ fn compare_long(
     query.arcs[SUN] = random.one_of(&[Arcs::two(one, two), Arcs::two(two, one)]);
     general_search::compare(checks, almanac, random, &query);
     look::compare_walk(checks, almanac, random, &query);
-    query.weekdays = Some(random.between(1, 127));
+    query.sets[WEEKDAY] = Some(random.between(1, 127));
     general_search::compare(checks, almanac, random, &query);
 }
 

@@ -16,8 +16,9 @@ use super::EDITIONS;
 
 const PROGRAM: &str = "target/bin/why";
 
-/// The examples of docs/why.md, and the line that it has for each.
-const EXAMPLES: [(&str, &str); 15] = [
+/// The examples of docs/why.md, and the line that it has for each; and of P1's conditions, with places of
+/// day 33649 that were reckoned apart.
+const EXAMPLES: [(&str, &str); 23] = [
     (
         "1612-5-15\n# Bombay, fol. 3: upper half\nweekday monday\ntithi 14\nsun 34:0:0 1:0:0\n",
         "33650 1612-5-15 does not fit: weekday asked monday found tuesday",
@@ -62,6 +63,38 @@ const EXAMPLES: [(&str, &str); 15] = [
     (
         "1917-10-15\ntithi 29\nedition 2\n",
         "145201 1917-10-15 does not fit: tithi asked 29 found 28 edition 2",
+    ),
+    (
+        "33649\ntithi 13 12\n",
+        "33649 1612-5-14 does not fit: tithi asked 12 13 found 14",
+    ),
+    (
+        "33649\nyoga 19 0 3 17\nkarana 1\n",
+        "33649 1612-5-14 does not fit: yoga asked 0 3 17 19 found 18",
+    ),
+    (
+        "33649\nsun 0 1\nkarana 1 11 8\n",
+        "33649 1612-5-14 does not fit: karana asked 1 8 11 found 7",
+    ),
+    (
+        "33649\ntrue_sun 34:0:0 1:0:0\n",
+        "33649 1612-5-14 does not fit: true_sun asked 34:0:0 1:0:0 found 35:44:8",
+    ),
+    (
+        "33649\ntrue_sun 359:0:0 2:0:0 180:0:0 1:0:0\n",
+        "33649 1612-5-14 does not fit: true_sun asked 359:0:0 2:0:0 180:0:0 1:0:0 found 35:44:8",
+    ),
+    (
+        "33649\ntrue_moon 0 1 359:0:0 3600\nsun 35:0:0 3600\n",
+        "33649 1612-5-14 does not fit: sun asked 35:0:0 1:0:0 found 34:13:40",
+    ),
+    (
+        "33649\ntrue_moon 0 1 359:0:0 3600\nsaturn 0 1296000\ntrue_saturn 0 1\n",
+        "33649 1612-5-14 does not fit: true_moon asked 0:0:0 0:0:1 359:0:0 1:0:0 found 204:44:2",
+    ),
+    (
+        "33649\ntrue_moon 204:47:23 1\ntrue_saturn 0 1\nedition 2\n",
+        "33649 1612-5-14 does not fit: true_saturn asked 0:0:0 0:0:1 found 326:42:29 edition 2",
     ),
     ("tuesday\ntithi 14\n", "refused 3"),
     ("33649\ntithi 30\n", "refused 6"),
@@ -300,9 +333,8 @@ fn reasons(checks: &mut Checks, almanac: &Almanac, random: &mut Random) {
 /// the day's line alone.
 fn random_texts(checks: &mut Checks, almanac: &Almanac, random: &mut Random) {
     let days = [&DAYS[..], &OTHER_FORMS, &NO_DATES, &OUTSIDE].concat();
-    for (kind, round) in
-        Kind::all().flat_map(|kind| kind.rounds(120).map(move |round| (kind, round)))
-    {
+    let kinds = Kind::all().into_iter().chain(Kind::half_read());
+    for (kind, round) in kinds.flat_map(|kind| kind.rounds(120).map(move |round| (kind, round))) {
         let mut lines = random_lines(random, almanac, kind);
         let number = random.below(LAST_DAY + 1);
         let mut word = day(random, almanac, number);

@@ -1,10 +1,11 @@
-//! The cases that paper 01 states itself, starred or not, and those of paper 02's requests, held
-//! against the second program alone, before it is compared with anything: so that both programs
+//! The cases that paper 01 states itself, starred or not, and those of paper 02's requests and of P1,
+//! held against the second program alone, before it is compared with anything: so that both programs
 //! are held to the papers.
 
 use std::collections::BTreeSet;
 
 use crate::checks::Checks;
+use crate::random::Random;
 use crate::reference::almanac::Almanac;
 use crate::reference::civil::Date;
 use crate::reference::days::LAST_DAY;
@@ -15,13 +16,18 @@ use crate::reference::longitudes::{
     JUPITER, MARS, MERCURY_ANOMALY, MOON, MOON_APOGEE, SUN, VENUS_ANOMALY,
 };
 use crate::reference::month::month;
-use crate::reference::page::printed;
+use crate::reference::page::{in_degrees, printed};
+use crate::reference::planets::TRUE_SUN;
 use crate::reference::plate::plate;
 use crate::reference::records::{filled, Record};
 use crate::reference::refusal::result_number;
 use crate::reference::saka::SakaDate;
-use crate::reference::search::{Arc, Arcs, Query};
+use crate::reference::search::{
+    set_of, Arc, Arcs, Query, LARGEST_EQUATION, RANGES, TITHI, WEEKDAY,
+};
 use crate::reference::sheet::day_sheet;
+
+use super::EDITIONS;
 
 const MONDAY: u32 = 0;
 const TUESDAY: u32 = 1;
@@ -350,7 +356,7 @@ fn smudged(checks: &mut Checks, almanac: &Almanac) {
     for (arcs, weekdays, matching, visited) in cases {
         let mut query = Query::without_conditions(0, 729);
         query.arcs[SUN] = arcs;
-        query.weekdays = weekdays;
+        query.sets[WEEKDAY] = weekdays;
         let input = || format!("{query:?}");
         let expected = Ok((matching.to_vec(), visited.to_vec()));
         let came = query.search(almanac);
@@ -367,7 +373,7 @@ fn smudged(checks: &mut Checks, almanac: &Almanac) {
         (u32::MAX, 6),
     ] {
         let mut query = Query::without_conditions(0, 6);
-        query.weekdays = Some(set);
+        query.sets[WEEKDAY] = Some(set);
         let input = || format!("{query:?}");
         let came = result_number(&query.search(almanac));
         checks.same("a set of weekdays", input, refusal, came);
@@ -375,7 +381,8 @@ fn smudged(checks: &mut Checks, almanac: &Almanac) {
 }
 
 /// L9: "either of which will do". The list of two arcs is that of the one and that of the other
-/// together, for each body; and the list of a set is those of its weekdays.
+/// together, for each body and, by P1, for each true place; and the list of a set is those of its
+/// weekdays.
 fn either(checks: &mut Checks, almanac: &Almanac) {
     let listed = |ask: &dyn Fn(&mut Query)| {
         let mut query = Query::without_conditions(3000, 5000);
@@ -383,7 +390,7 @@ fn either(checks: &mut Checks, almanac: &Almanac) {
         let found = query.search(almanac).expect("the query is well-formed");
         BTreeSet::from_iter(found.matching)
     };
-    for body in 0..9 {
+    for body in 0..16 {
         for start in [0, 100_000, 200_000, 350_000, 1_100_000] {
             let [one, other] = [Arc::new(100_000, 250_000), Arc::new(start, 200_000)];
             let [of_one, of_other, of_both] =
@@ -396,9 +403,153 @@ fn either(checks: &mut Checks, almanac: &Almanac) {
     for set in 1..128 {
         let in_set = |day: &u32| set >> (day % 7) & 1 == 1;
         let expected = (3000..=5000).filter(in_set).collect();
-        let came = listed(&|query| query.weekdays = Some(set));
+        let came = listed(&|query| query.sets[WEEKDAY] = Some(set));
         let input = || format!("set {set}");
         checks.same("each weekday of the set will do", input, expected, came);
+    }
+    // P1: the same for limbs, in both editions, by the limbs of the day itself.
+    let mut random = Random::from_seed();
+    for (at, edition) in (TITHI..5).flat_map(|at| EDITIONS.map(|edition| (at, edition))) {
+        for _ in 0..40 {
+            let numbers = (0..random.between(1, 12)).map(|_| random.between(1, RANGES[at].1));
+            let numbers = Vec::from_iter(numbers);
+            let own = |day: &u32| {
+                let elements = almanac.elements(edition, *day).expect("a day");
+                elements.limbs()[at - 1]
+            };
+            let expected = (3000..=5000).filter(|day| numbers.contains(&own(day)));
+            let came = listed(&|query| {
+                query.edition = edition;
+                query.sets[at] = Some(set_of(&numbers));
+            });
+            let input = || format!("edition {edition}, set {at} of {numbers:?}");
+            checks.same("each of the set will do", input, expected.collect(), came);
+        }
+    }
+}
+
+/// P1: "the true Sun is never farther from the mean Sun than the largest equation, 7,845 seconds", and
+/// on some days it is so far, ahead and behind.
+fn largest_equation(checks: &mut Checks, almanac: &Almanac) {
+    let mut farthest = [0; 2];
+    for (number, day) in almanac.days().iter().enumerate() {
+        let input = || format!("day {number}");
+        let apart = short_way(day.mean[SUN], day.place(TRUE_SUN, Edition::First));
+        let size = apart.unsigned_abs() as u32;
+        checks.at_most("the Sun's equation", input, LARGEST_EQUATION, size);
+        farthest = [farthest[0].min(apart), farthest[1].max(apart)];
+    }
+    let table = || "the table".to_string();
+    checks.same("the largest", table, [-7845, 7845], farthest);
+}
+
+/// P1, as pages: the request's own day, and days reckoned apart from both programs; the days that are
+/// listed and the number looked at, which in most cases are the same in both editions.
+fn half_read(checks: &mut Checks, almanac: &Almanac) {
+    let found = |page: &str| {
+        let output = printed(almanac, page.as_bytes()).output;
+        let mut lines = output.lines();
+        let looked = lines.next().and_then(|line| line.split(' ').nth(3));
+        let days = lines
+            .skip(1)
+            .map(|line| line.split(' ').next().unwrap_or(""));
+        format!(
+            "{} looked {}",
+            days.collect::<Vec<&str>>().join(" "),
+            looked.unwrap_or("")
+        )
+    };
+    let year = "span 1612-1-1 1612-12-31\nweekday monday\ntithi 14\n";
+    checks.same(
+        "the Sun at 35°",
+        || year.to_string(),
+        ["33649 looked 8", " looked 3"].map(String::from),
+        ["true_sun", "sun"].map(|body| found(&format!("{year}{body} 35:0:0 1:0:0\n"))),
+    );
+    let day = &almanac.days()[33649];
+    let suns = [SUN, TRUE_SUN].map(|body| in_degrees(day.place(body, Edition::First)));
+    let expected = ["34:13:40", "35:44:8"].map(String::from);
+    checks.same(
+        "mean and true Sun",
+        || "day 33649".to_string(),
+        expected,
+        suns,
+    );
+
+    let cases = [
+        (
+            "span 0 100\nkarana 8 9 10 11\n",
+            "0 29 58 59 87 88 looked 101",
+        ),
+        (
+            "span 0 60\nkarana 7\n",
+            "7 18 25 28 33 40 44 51 54 looked 61",
+        ),
+        ("span 0 60\ntithi 13 14\n", "13 14 15 43 44 looked 61"),
+        (
+            "span 0 800\nnakshatra 7 8\nyoga 4 5\n",
+            "310 336 337 692 looked 801",
+        ),
+        (
+            "span 0 729\ntrue_sun 359:0:0 2:0:0\n",
+            "8 9 373 374 looked 15",
+        ),
+        (
+            "span 0 729\ntrue_sun 0 1:0:0 180:0:0 1:0:0\n",
+            "9 196 374 561 looked 26",
+        ),
+        (
+            "span 0 729\ntrue_sun 0 3:0:0\nsun 0 1:0:0\n",
+            "11 376 looked 5",
+        ),
+        (
+            "span 0 100\ntrue_moon 355:0:0 10:0:0\n",
+            "1 28 83 looked 101",
+        ),
+        (
+            "span 0 2000\ntrue_mars 359:0:0 2:0:0\n",
+            "44 45 46 754 755 1464 1465 looked 2001",
+        ),
+        (
+            "span 0 400\ntrue_mercury 358:0:0 4:0:0\n",
+            "19 20 376 377 378 looked 401",
+        ),
+        (
+            "span 0 5000\ntrue_jupiter 359:50:0 0:40:0\n",
+            "1818 1819 1820 looked 5001",
+        ),
+        (
+            "span 0 800\ntrue_venus 358:0:0 4:0:0\n",
+            "47 48 49 50 341 342 343 750 751 752 753 looked 801",
+        ),
+        (
+            "span 0 12000\ntrue_saturn 359:55:0 0:10:0\n",
+            "2280 2281 2282 2354 2355 2356 2533 2534 looked 12001",
+        ),
+    ];
+    for (page, expected) in cases {
+        for page in [page.to_string(), format!("{page}edition 2\n")] {
+            let came = found(&page);
+            checks.same("what a page finds", || page, expected.to_string(), came);
+        }
+    }
+    // One degree over the whole table: "a walk of some 7,200 days, not 401,600".
+    let page = "weekday monday\ntithi 14\ntrue_sun 35:0:0 1:0:0\n";
+    let expected = "33649 68348 112910 267414 looked 7175".to_string();
+    checks.same(
+        "what a page finds",
+        || page.to_string(),
+        expected,
+        found(page),
+    );
+    // The Moon passes 0 from edition to edition.
+    for (days, moons) in [("12022", ["", "12022"]), ("13334", ["13334", ""])] {
+        for (edition, moon) in EDITIONS.into_iter().zip(moons) {
+            let page = format!("span {days} {days}\ntrue_moon 0 300\nedition {edition}\n");
+            let came = found(&page);
+            let expected = format!("{moon} looked 1");
+            checks.same("what a page finds", || page, expected, came);
+        }
     }
 }
 
@@ -561,6 +712,20 @@ fn pages(checks: &mut Checks, almanac: &Almanac) {
         ("sun 0 3600 7200 0\n", 6),
         ("sun 0 0 7200 3600\n", 6),
         ("sun 0 3600 7200 3600 0\n", 3),
+        ("tithi 30 30\n", 3),
+        ("tithi 30 29\n", 6),
+        ("tithi 31 31\n", 6),
+        ("nakshatra 3 27\n", 6),
+        ("yoga 3 3\n", 3),
+        ("karana\n", 3),
+        ("karana 0\n", 6),
+        ("karana 0 0\n", 3),
+        ("karana 12\n", 6),
+        ("karana 11 x\n", 3),
+        ("true_sun 0\n", 3),
+        ("true_sun 0 0\n", 6),
+        ("true_saturn 0 1 1296000 1\n", 6),
+        ("true_node 0 1\n", 3),
     ] {
         let expected = format!("refused {refusal}\n");
         let came = printed(almanac, page.as_bytes()).output;
@@ -580,6 +745,8 @@ pub fn run(checks: &mut Checks, almanac: &Almanac) {
     search(checks, almanac);
     smudged(checks, almanac);
     either(checks, almanac);
+    largest_equation(checks, almanac);
+    half_read(checks, almanac);
     sheet(checks, almanac);
     epoch_plate(checks, almanac);
     rows(checks, almanac);
