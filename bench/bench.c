@@ -2,23 +2,17 @@
  * search, or a call on a thousand days and two, for callgrind; `bench stack` prints the deepest stack of any call. */
 #include "../include/grahalaghava.h"
 #include "plain.h"
+#include "turns.h"
 #include <pthread.h>
 #include <stdio.h>
 #include <stdlib.h>
 #include <string.h>
-#include <time.h>
 
 enum { DAYS = 401600, ROOM = 4 * DAYS };
 static uint8_t list[ROOM], other[ROOM];
 static volatile uint64_t sink;
 
 static const uint32_t SPARSE = 3600, DENSE = 1296000;
-
-static double now(void) {
-    struct timespec t;
-    clock_gettime(CLOCK_MONOTONIC, &t);
-    return (double)t.tv_sec * 1e9 + (double)t.tv_nsec;
-}
 
 /* A search of the whole span on a Monday, with so many bytes of list. */
 static void ours(uint32_t width, size_t len) { sink += graha_search(0, DAYS - 1, 0, width, 0, list, len); }
@@ -138,27 +132,13 @@ typedef struct {
     number call;
 } job;
 
-static void run(const job *j) {
+static void run(const void *of) {
+    const job *j = of;
     if (j->search) j->search(j->width, j->len);
     else all_days(j->call);
 }
 
-/* The least of many times: the machine's other work only adds. Both sides take turns, so that they meet the same
- * machine. */
-static void pair(const char *what, job a, job b, double most) {
-    double best_a = 1e18, best_b = 1e18;
-    for (int round = 0; round < 60; round++) {
-        double t = now();
-        run(&a);
-        double u = now();
-        run(&b);
-        double v = now();
-        if (u - t < best_a) best_a = u - t;
-        if (v - u < best_b) best_b = v - u;
-    }
-    printf("%-46s %12.1f us %12.1f us %8.2f   %s %.4g\n", what, best_a / 1e3, best_b / 1e3, best_a / best_b, most > 0 ? "at most" : "at least 1 /",
-           most > 0 ? most : -most);
-}
+static void pair(const char *what, job a, job b, double most) { in_turns(what, run, &a, &b, most); }
 
 static job search_job(void (*f)(uint32_t, size_t), uint32_t width, size_t len) { return (job){"", f, width, len, NULL}; }
 static job call_job(number f) { return (job){"", NULL, 0, 0, f}; }
@@ -238,10 +218,10 @@ int main(int count, char **word) {
     if (count == 2 && !strcmp(word[1], "stack")) {
         size_t base = depth(nothing), a = depth(search_all) - base, b = depth(places) - base, c = depth(calendar) - base, d = depth(orders) - base,
                e = depth(almanacs) - base;
-        printf("deepest stack: search %zu, places %zu, calendar %zu, orders %zu, almanacs %zu bytes (at most 2048)\n", a, b, c, d, e);
+        printf("deepest stack: search %zu bytes (at most 4096), places %zu, calendar %zu, orders %zu, almanacs %zu bytes (at most 2048)\n", a, b, c, d, e);
         return 0;
     }
-    printf("%-46s %15s %15s %8s   %s\n", "whole span, Mondays", "proved", "plain C", "ratio", "to reach");
+    head("whole span, Mondays");
     pair("sparse search, an entry for each day", search_job(ours, SPARSE, ROOM), search_job(plain, SPARSE, ROOM), 1.1);
     pair("sparse search, a list that just fits", search_job(ours, SPARSE, needed(SPARSE)), search_job(plain, SPARSE, ROOM), 1.15);
     pair("sparse search, a list of 1000 entries", search_job(ours, SPARSE, 4000), search_job(plain, SPARSE, ROOM), 1.15);
@@ -264,7 +244,7 @@ int main(int count, char **word) {
         puts("the two rows of month turns differ");
         return 1;
     }
-    printf("%-46s %15s %15s %8s   %s\n", "each of 401,600 days", "proved", "plain C", "ratio", "to reach");
+    head("each of 401,600 days");
     pair("mean Sun", call_job(graha_mean_sun), call_job(plain_mean_sun), 1.1);
     pair("mean Moon", call_job(graha_mean_moon), call_job(plain_mean_moon), 1.1);
     pair("Moon's node", call_job(graha_moon_node), call_job(plain_moon_node), 1.1);

@@ -1,30 +1,55 @@
-/* Three pages tested on every day in plain C, which prints the days' numbers. `every_day` is examples/torn-page.txt: a
- * Monday, fourteen tithis elapsed, the Sun in the degree from 34.
- * `every_day EDITION` is a page that asks for elements alone: tithi 12, nakshatra 4, yoga 23, in an edition.
- * `every_day either` has two weekdays and two arcs: a Monday or a Tuesday, the Sun in the degree from 34 or in that
- * from 64, and the tithi of the first. */
+/* The program find in plain C, which tests every day of the table: `every_day CONDITION...` prints the catalogue of the
+ * days that match, as find does. Conditions are a name and a number, `edition 2`, or a set with a bit for each number,
+ * `weekday 1`, `tithi 0x3000`, `nakshatra`, `yoga`, `karana`; or a name, a start and a width in seconds of arc,
+ * `sun 122400 3600` of the mean Sun, `true_sun`, `true_moon`, `true_mars`, `true_mercury`, `true_jupiter`,
+ * `true_venus`, `true_saturn` of true places, once or twice. */
 #include "plain.h"
 #include <stdio.h>
 #include <stdlib.h>
+#include <string.h>
 
-static int torn(uint32_t day) {
-    uint32_t off = (plain_mean_sun(day) + 1296000 - 34 * 3600) % 1296000;
-    return off < 3600 && plain_weekday(day) == 0 && plain_tithi(day) == 14;
-}
-
-static int elements(uint32_t edition, uint32_t day) {
-    return plain_element_number(1, edition, day) == 12 && plain_element_number(2, edition, day) == 4 && plain_element_number(3, edition, day) == 23;
-}
-
-static int either(uint32_t day) {
-    uint32_t sun = plain_mean_sun(day), off = (sun + 1296000 - 34 * 3600) % 1296000, other = (sun + 1296000 - 64 * 3600) % 1296000;
-    return (off < 3600 || other < 3600) && plain_weekday(day) <= 1 && plain_tithi(day) == 14;
-}
+enum { DAYS = 401600 };
+static uint32_t list[DAYS];
 
 int main(int count, char **word) {
-    uint32_t edition = count == 2 ? (uint32_t)atoi(word[1]) : 0;
-    int smudged = count == 2 && !edition;
-    for (uint32_t day = 0; day <= 401599; day++)
-        if (smudged ? either(day) : edition ? elements(edition, day) : torn(day)) printf("%u\n", day);
+    static const char *const WEEKDAYS[] = {"monday", "tuesday", "wednesday", "thursday", "friday", "saturday", "sunday"};
+    plain_query query = {.edition = 1};
+    struct {
+        const char *name;
+        uint32_t *number;
+        plain_arcs *arcs;
+    } conditions[] = {
+        {"edition", &query.edition, NULL},          {"weekday", &query.weekdays, NULL},         {"tithi", &query.tithis, NULL},
+        {"nakshatra", &query.nakshatras, NULL},     {"yoga", &query.yogas, NULL},               {"karana", &query.karanas, NULL},
+        {"sun", NULL, &query.mean_sun},             {"true_sun", NULL, &query.sun},             {"true_moon", NULL, &query.moon},
+        {"true_mars", NULL, query.planets},         {"true_mercury", NULL, query.planets + 1},  {"true_jupiter", NULL, query.planets + 2},
+        {"true_venus", NULL, query.planets + 3},    {"true_saturn", NULL, query.planets + 4},
+    };
+    const size_t names = sizeof conditions / sizeof *conditions;
+    for (int at = 1; at < count;) {
+        size_t i = 0;
+        while (i < names && strcmp(word[at], conditions[i].name)) i++;
+        if (i == names || at + (conditions[i].arcs ? 2 : 1) >= count || (conditions[i].arcs && conditions[i].arcs->arcs == 2)) {
+            fprintf(stderr, "every_day: %s\n", word[at]);
+            return 2;
+        }
+        if (conditions[i].number) {
+            *conditions[i].number = (uint32_t)strtoul(word[at + 1], NULL, 0);
+            at += 2;
+        } else {
+            plain_arcs *asked = conditions[i].arcs;
+            asked->start[asked->arcs] = (uint32_t)strtoul(word[at + 1], NULL, 0);
+            asked->width[asked->arcs++] = (uint32_t)strtoul(word[at + 2], NULL, 0);
+            at += 3;
+        }
+    }
+    uint32_t found = plain_find(&query, list);
+    printf("found %u looked %u%s\nday date weekday tithi nakshatra yoga karana\n", found, (unsigned)DAYS, query.edition == 2 ? " edition 2" : "");
+    for (uint32_t i = 0; i < found; i++) {
+        uint32_t day = list[i], limbs[4];
+        plain_date date = plain_civil_date(day);
+        plain_limbs(query.edition, day, limbs);
+        printf("%u %u-%u-%u %s %u %u %u %u\n", day, date.year, date.month, date.day, WEEKDAYS[day % 7], limbs[0], limbs[1], limbs[2], limbs[3]);
+    }
     return 0;
 }

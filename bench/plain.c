@@ -137,16 +137,49 @@ uint32_t plain_fill_records(uint32_t edition, plain_record *records, uint64_t le
     return 0;
 }
 
-uint32_t plain_element_number(uint32_t which, uint32_t edition, uint32_t day) {
-    if ((edition != 1 && edition != 2) || day > LAST) return 0;
-    uint32_t at = moon_of(edition, day);
-    switch (which) {
-    case 0: return at;
-    case 1: return past(at, true_sun(day)) / 43200;
-    case 2: return at / 48000;
-    case 3: return (true_sun(day) + at) % CIRCLE / 48000;
-    default: return karana_of(past(at, true_sun(day)) / 21600);
-    }
+void plain_limbs(uint32_t edition, uint32_t day, uint32_t *limbs) {
+    uint32_t s = true_sun(day), m = moon_of(edition, day);
+    limbs[0] = past(m, s) / 43200;
+    limbs[1] = m / 48000;
+    limbs[2] = (s + m) % CIRCLE / 48000;
+    limbs[3] = karana_of(past(m, s) / 21600);
+}
+
+static inline int has(uint32_t set, uint32_t number) { return set >> number & 1; }
+
+static inline int in(const plain_arcs *asked, uint32_t at) {
+    for (uint32_t i = 0; i < asked->arcs; i++)
+        if (past(at, asked->start[i]) < asked->width[i]) return 1;
+    return 0;
+}
+
+/* One condition after the other, what is cheap to reckon first; a light is reckoned once for all that ask for it. */
+static inline int meets(const plain_query *q, uint32_t day) {
+    if (q->weekdays && !has(q->weekdays, day % 7)) return 0;
+    if (q->mean_sun.arcs && !in(&q->mean_sun, sun(day))) return 0;
+    int both = q->tithis || q->yogas || q->karanas;
+    uint32_t s = 0, m = 0;
+    if (both || q->sun.arcs) s = true_sun(day);
+    if (q->sun.arcs && !in(&q->sun, s)) return 0;
+    if (both || q->nakshatras || q->moon.arcs) m = moon_of(q->edition, day);
+    if (q->moon.arcs && !in(&q->moon, m)) return 0;
+    if (q->nakshatras && !has(q->nakshatras, m / 48000)) return 0;
+    if (q->tithis && !has(q->tithis, past(m, s) / 43200)) return 0;
+    if (q->yogas && !has(q->yogas, (s + m) % CIRCLE / 48000)) return 0;
+    if (q->karanas && !has(q->karanas, karana_of(past(m, s) / 21600))) return 0;
+    if (q->planets[1].arcs && !in(q->planets + 1, plain_true_mercury(day))) return 0;
+    if (q->planets[3].arcs && !in(q->planets + 3, plain_true_venus(day))) return 0;
+    if (q->planets[0].arcs && !in(q->planets, plain_true_mars(day))) return 0;
+    if (q->planets[2].arcs && !in(q->planets + 2, plain_true_jupiter(day))) return 0;
+    if (q->planets[4].arcs && !in(q->planets + 4, plain_true_saturn(day))) return 0;
+    return 1;
+}
+
+uint32_t plain_find(const plain_query *query, uint32_t *list) {
+    uint32_t count = 0;
+    for (uint32_t day = 0; day <= LAST; day++)
+        if (meets(query, day)) list[count++] = day;
+    return count;
 }
 
 static inline uint32_t saka_day(uint32_t year, uint32_t months, uint32_t tithis, uint32_t weekday, uint32_t pending) {
@@ -329,6 +362,25 @@ static inline uint32_t serial(uint32_t y, uint32_t m, uint32_t d) {
 }
 
 #define DAY_0 701293u
+#define JULIAN_DAY_0 701298u /* by the Julian rule */
+#define GREGORIAN 22845u     /* 15 October 1582 */
+
+static inline plain_date of_march_year(uint32_t year, uint32_t n) {
+    uint32_t p = (5 * n + 2) / 153;
+    return (plain_date){year - 400 + (p >= 10), p < 10 ? p + 3 : p - 9, n - (153 * p + 2) / 5 + 1};
+}
+
+static inline plain_date gregorian(uint32_t day) {
+    uint32_t s = day + DAY_0, c = (4 * s + 3) / 146097, w = s - (36524 * c + c / 4), v = (4 * w + 3) / 1461;
+    return of_march_year(100 * c + v, w - (365 * v + v / 4));
+}
+
+static inline plain_date julian(uint32_t day) {
+    uint32_t s = day + JULIAN_DAY_0, v = (4 * s + 3) / 1461;
+    return of_march_year(v, s - (365 * v + v / 4));
+}
+
+plain_date plain_civil_date(uint32_t day) { return day < GREGORIAN ? julian(day) : gregorian(day); }
 
 /* The day of a line of a date, or the refusal's number with the top bit. */
 static inline uint32_t date_line(const uint8_t *line, size_t len) {
@@ -379,9 +431,8 @@ uint64_t plain_list_to_dates(const uint8_t *list, size_t list_len, uint8_t *text
         if (entry(list, 4 * i) > LAST) return refused(2, 0);
     if (text_len < 11 * entries) return refused(7, 11 * entries);
     for (size_t i = 0; i < entries; i++) {
-        uint32_t s = entry(list, 4 * i) + DAY_0, c = (4 * s + 3) / 146097, w = s - (36524 * c + c / 4), v = (4 * w + 3) / 1461;
-        uint32_t n = w - (365 * v + v / 4), p = (5 * n + 2) / 153;
-        uint32_t d = n - (153 * p + 2) / 5 + 1, m = p < 10 ? p + 3 : p - 9, y = 100 * c + v - 400 + (p >= 10);
+        plain_date date = gregorian(entry(list, 4 * i));
+        uint32_t y = date.year, m = date.month, d = date.day;
         uint8_t *line = text + 11 * i;
         line[0] = (uint8_t)('0' + y / 1000);
         line[1] = (uint8_t)('0' + y / 100 % 10);

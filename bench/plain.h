@@ -38,8 +38,8 @@ uint32_t plain_tithi(uint32_t day);
 uint32_t plain_nakshatra(uint32_t day);
 uint32_t plain_yoga(uint32_t day);
 uint32_t plain_karana(uint32_t day);
-/* In an edition: the true Moon for 0, the tithi for 1, the nakshatra for 2, the yoga for 3, else the karana. */
-uint32_t plain_element_number(uint32_t which, uint32_t edition, uint32_t day);
+/* Tithi, nakshatra, yoga and karana in an edition. */
+void plain_limbs(uint32_t edition, uint32_t day, uint32_t *limbs);
 uint32_t plain_saka_day(uint32_t year, uint32_t months, uint32_t tithis, uint32_t weekday);
 uint32_t plain_saka_pending_day(uint32_t year, uint32_t months, uint32_t tithis, uint32_t weekday, uint32_t pending);
 
@@ -59,6 +59,13 @@ plain_found plain_sign_entries(uint32_t first, uint32_t last, uint8_t *list, siz
 uint64_t plain_dates_to_list(const uint8_t *text, size_t text_len, uint8_t *list, size_t list_len);
 uint64_t plain_list_to_dates(const uint8_t *list, size_t list_len, uint8_t *text, size_t text_len);
 
+typedef struct {
+    uint32_t year, month, day;
+} plain_date;
+
+/* Julian up to 4 October 1582, Gregorian from 15 October 1582. */
+plain_date plain_civil_date(uint32_t day);
+
 /* A row of month turns, extended and asked. */
 uint32_t plain_months_extend(uint32_t turns, uint32_t covered, uint32_t days, uint8_t *list, size_t len);
 uint32_t plain_month_number(uint32_t turns, uint32_t covered, uint32_t day, const uint8_t *list, size_t len);
@@ -67,6 +74,20 @@ uint32_t plain_month_number(uint32_t turns, uint32_t covered, uint32_t day, cons
  * list. */
 uint32_t plain_almanac_write(uint32_t first, uint32_t last, uint8_t *file, uint64_t file_len);
 uint32_t plain_almanac_read(const uint8_t *file, uint64_t file_len, uint8_t *list, uint64_t list_len);
+
+/* What a page asks for. Sets have a bit for each number, that of 0 the lowest; where a set is 0 or a body has no arc,
+ * all will do. Of two arcs either will do. */
+typedef struct {
+    uint32_t arcs, start[2], width[2];
+} plain_arcs;
+
+typedef struct {
+    uint32_t edition, weekdays, tithis, nakshatras, yogas, karanas;
+    plain_arcs mean_sun, sun, moon, planets[5]; /* all but the first of true places; Mars, Mercury, Jupiter, Venus, Saturn */
+} plain_query;
+
+/* Tests every day of the table; the list must have room for each. How many match. */
+uint32_t plain_find(const plain_query *query, uint32_t *list);
 
 /* Tests every day of the span. */
 plain_found plain_every_day(uint32_t first, uint32_t last, uint32_t start, uint32_t width, uint32_t weekday, uint8_t *list, size_t len);
