@@ -115,7 +115,7 @@ COUNTED = [
     ("docs/search.md", r"entries are", r"bytes", 4 * KEPT),
     ("docs/speed-decisions.md", r"The first", r"matching days are kept", KEPT),
     ("docs/speed-decisions.md", r"too short\*\*, in", r"bytes of stack", 4 * KEPT),
-    ("docs/speed-decisions.md", r"a query has", r"bytes since L9", QUERY),
+    ("docs/speed-decisions.md", r"a query has", r"bytes since P1", QUERY),
     ("docs/contracts.md", r"for", r"bytes(?= the search|; else|: the)", QUERY),
     ("docs/DECISIONS.md", r"reads the", r"numbers of a query", QUERY // 4),
     ("docs/DECISIONS.md", r"(?:A page of|An input of|`find` at most)", r"KiB", KIB),

@@ -17,7 +17,7 @@ PICTURE = ROOT / "docs/map.svg"
 UNDER_ALL = "days integers entries text words input output".split()
 READS = "values page question span_line date_lines".split()
 RECKONS = "civil iso saka longitudes panchanga planets older_motions arms records query search lunar_months reasons blocks almanac zodiac".split()
-PRINTS = "dated sheet month_sheet almanac_sheet plate messages drift_sheet catalogue explanation lunar_month_sheet sign_sheet reply conversion".split()
+PRINTS = "dated remarks sheet month_sheet almanac_sheet plate messages drift_sheet catalogue explanation lunar_month_sheet sign_sheet reply conversion".split()
 # Who, what is asked and answered, and the programs: for the operator calls from C, so numbers and no text.
 LANES = [
     ("the reader", "which days, and why not that one", "find why"),
