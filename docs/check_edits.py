@@ -6,7 +6,7 @@ own; that the crate is refused says of one of them that it is, so the prover's l
   where it has none);
 - the prover says of each fact of a proof whether it fails, so that a function may be given several wrong answers at
   once: then the comment of each ends with the name of a fact in parentheses, which fails and is no other's (so too for
-  several changes of meanings);
+  several changes of meanings, where the fact may be named with its proof, as `day_of::returns-2`);
 - where the edit changes what a function promises too, or brings a new one, it may be proved: then a fact fails in a
   function that names it, or in one that is called beside it;
 - where it changes a constant (or a struct), a fact fails in the proof of a function that names it or a constant made of
@@ -111,6 +111,12 @@ def fails(log, said):
     return found
 
 
+def names_of(path, fact):
+    """A fact's own name, and with that of its proof before it."""
+    proof = path.removeprefix("proofs/").removesuffix(".antt").removesuffix("/Proof")
+    return [fact, proof.replace("/", "::") + f"::{fact}"] if fact else []
+
+
 def complaints(crate, label):
     """Each complaint on an edit, and how many wrong answers it holds."""
     whole, edited = ROOT / "crates" / crate, ROOT / "target/must-fail" / crate / label
@@ -151,7 +157,7 @@ def complaints(crate, label):
     count, given = 0, answers(whole, whole / "must-fail" / f"{label}.edit")
     for name in [name for name in wrong if name not in apart] + ["meaning"] * meant:
         claimed = [fact for changes, fact in given if name in changes]
-        shown = {fact for path, fact in failing if path == own.get(name) or name == "meaning" and path not in altered}
+        shown = {word for path, fact in failing if path == own.get(name) or name == "meaning" and path not in altered for word in names_of(path, fact)}
         due = claimed if len(claimed) > 1 else [fact for fact in claimed if fact]
         if len({*due}) < len(due) or not shown.issuperset(due):
             found.append(f"not every one of the {len(claimed)} answers of {name} names a fact of its own that fails: {', '.join(sorted(shown))}")
