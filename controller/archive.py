@@ -1,4 +1,5 @@
 """How the controller's archives are made and what they are held to; build is the command."""
+import concurrent.futures
 import os
 import pathlib
 import platform
@@ -75,12 +76,25 @@ def kit():
     return pathlib.Path(run(["rt", "doc"], "rt does not say where its kit is")).parent.parent
 
 
+def own_root(room):
+    """A folder in which rt finds the repository's crates and what is proved of them, and keeps its logs and archives
+    apart: so it can run beside an rt in the repository."""
+    (room / "target").mkdir(parents=True)
+    for name in ("crates", "crates.txt"):
+        (room / name).symlink_to(ROOT / name)
+    for name in ("rlib", "stamp"):
+        (ROOT / "target" / name).mkdir(parents=True, exist_ok=True)
+        (room / "target" / name).symlink_to(ROOT / "target" / name)
+
+
 def proved_module():
     """The module that rt compiles once it has proved the library. rt is given a folder of links to its kit, in which
     clang is a script that keeps the module and calls the real one. (The script has an empty environment, so all names
     in it are whole.)"""
-    real, links, kept = kit(), OUT / "kit", OUT / "module.bc"
-    shutil.rmtree(links, ignore_errors=True)
+    real, room, links, kept = kit(), OUT / "room", OUT / "kit", OUT / "module.bc"
+    for made in (room, links):
+        shutil.rmtree(made, ignore_errors=True)
+    own_root(room)
     clang, script = real.joinpath(*CLANG), links.joinpath(*CLANG)
     for depth, name in enumerate(CLANG):
         link_all(real.joinpath(*CLANG[:depth]), links.joinpath(*CLANG[:depth]), name)
@@ -97,9 +111,10 @@ exec '{clang}' "$@"
 """, encoding="utf-8")
     script.chmod(0o755)
     try:
-        run(["rt", "staticlib", "host"], "the library is not proved", cwd=ROOT, env={**os.environ, "RATTLE_HOME": str(links)})
+        run(["rt", "staticlib", "host"], "the library is not proved", cwd=room, env={**os.environ, "RATTLE_HOME": str(links)})
     finally:
         shutil.rmtree(links)
+        shutil.rmtree(room)
     if not kept.is_file():
         raise Failed("rt compiled no module")
     return kept
@@ -175,19 +190,29 @@ def report(names, lines):
     path.write_text("".join(f"{line}\n" for line in every), encoding="utf-8")
 
 
+def forget(names):
+    """Leaves no archive of these targets, and no line of them in the report."""
+    for name in names:
+        shutil.rmtree(OUT / name, ignore_errors=True)
+    report(names, [])
+
+
 def build_all(names):
     unknown = [name for name in names if name not in TARGETS]
     if unknown:
         raise Failed(f"{unknown[0]} is no target; there are {', '.join(TARGETS)}, and all of them by the word all")
     OUT.mkdir(parents=True, exist_ok=True)
-    for name in names:
-        shutil.rmtree(OUT / name, ignore_errors=True)
+    forget(names)
     for made in ("module.bc", "module.ll", "portable.ll", "inlined.csv"):
         (OUT / made).unlink(missing_ok=True)
-    report(names, [])
     clang = kit().joinpath(*CLANG)
     portable, inlined = portable_module(clang, proved_module())
-    for name in names:
-        lines = build(clang, portable, inlined, name)
-        report([name], lines)
-        yield from lines
+    try:
+        # As many targets at once as there are processors.
+        with concurrent.futures.ThreadPoolExecutor(os.cpu_count()) as pool:
+            for name, lines in zip(names, pool.map(lambda name: build(clang, portable, inlined, name), names)):
+                report([name], lines)
+                yield from lines
+    except Exception:
+        forget(names)
+        raise
