@@ -25,13 +25,20 @@ unfolding halfCorrected mandaAnomaly mandaCorrected secondAnomaly truePlanet sig
 same-planet r mean first = simp line-behind
 
 module _ (p sun own : ℕ) (d : Day) (s : sun ≡ longitudeAt 0 d) (o : own ≡ longitudeAt (4 + p) d) where
-  pub outer-planet : isInner p ≡ false → truePlanet (withZero (rowOf p)) own (differenceOf sun own) ≡ truePlanetAt p d
+  pub outer-planet : isInner p ≡ false → truePlanet (rowOf p) own (differenceOf sun own) ≡ truePlanetAt p d
   unfolding truePlanetAt meanPlanet firstAnomaly
-  outer-planet i = same-planet (rowOf p) own (differenceOf sun own) ∙ rw (i, s, o)
+  outer-planet i = rw (i, s, o)
 
-  pub inner-planet : isInner p ≡ true → truePlanet (withZero (rowOf p)) sun own ≡ truePlanetAt p d
+  pub inner-planet : isInner p ≡ true → truePlanet (rowOf p) sun own ≡ truePlanetAt p d
   unfolding truePlanetAt meanPlanet firstAnomaly
-  inner-planet i = same-planet (rowOf p) sun own ∙ rw (i, s, o)
+  inner-planet i = rw (i, s, o)
+
+  -- and so by the rows as the code has them
+  pub outer-lent : isInner p ≡ false → truePlanet (withZero (rowOf p)) own (differenceOf sun own) ≡ truePlanetAt p d
+  outer-lent i = same-planet (rowOf p) own (differenceOf sun own) ∙ outer-planet i
+
+  pub inner-lent : isInner p ≡ true → truePlanet (withZero (rowOf p)) sun own ≡ truePlanetAt p d
+  inner-lent i = same-planet (rowOf p) sun own ∙ inner-planet i
 
 pub five-given : (d : Day) → inRange d ≡ true → truePlanetsOf d ≡ record { refusal = 0; longitudes = truePlanetsAt d }
 unfolding truePlanetsOf

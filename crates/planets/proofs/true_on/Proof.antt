@@ -3,7 +3,7 @@
 use borrow.Author.Needs.{needs}
 use mathlib.Core.Path.{refl, _∙_}
 use Rattle.planets.specs.Tables.{sighraTable, mandaTable, planetApogees, rowOf}
-use Rattle.planets.proofs.Answers.{outer-planet, inner-planet}
+use Rattle.planets.proofs.Answers.{outer-lent, inner-lent}
 use Rattle.planets.proofs.true_on.Statement.{statement}
 use Rattle.planets.proofs.true_on.Tie as tie
 
@@ -102,23 +102,23 @@ outer-requires-3 c κs = search needs
 
 returns : tie.Need-returns
 unfolding rowOf sighraTable mandaTable planetApogees
-returns c = rw (c .before .before .before .before .before .before .enum-told .given .1) (c .outer .ensures ∙ outer-planet 0 _ _ _ (c .before .before .before .before .before .before .before .before .mean-on .ensures .0) (c .before .mean-on2 .ensures .0) refl)
+returns c = rw (c .before .before .before .before .before .before .enum-told .given .1) (c .outer .ensures ∙ outer-lent 0 _ _ _ (c .before .before .before .before .before .before .before .before .mean-on .ensures .0) (c .before .mean-on2 .ensures .0) refl)
 
 returns-2 : tie.Need-returns-2
 unfolding rowOf sighraTable mandaTable planetApogees
-returns-2 c = rw (c .before .before .before .before .before .before .enum-told2 .given .1) (c .true-planet .ensures ∙ inner-planet 1 _ _ _ (c .before .before .before .before .before .before .before .before .mean-on .ensures .0) (c .before .mean-on3 .ensures .0) refl)
+returns-2 c = rw (c .before .before .before .before .before .before .enum-told2 .given .1) (c .true-planet .ensures ∙ inner-lent 1 _ _ _ (c .before .before .before .before .before .before .before .before .mean-on .ensures .0) (c .before .mean-on3 .ensures .0) refl)
 
 returns-3 : tie.Need-returns-3
 unfolding rowOf sighraTable mandaTable planetApogees
-returns-3 c = rw (c .before .before .before .before .before .before .enum-told3 .given .1) (c .outer2 .ensures ∙ outer-planet 2 _ _ _ (c .before .before .before .before .before .before .before .before .mean-on .ensures .0) (c .before .mean-on4 .ensures .0) refl)
+returns-3 c = rw (c .before .before .before .before .before .before .enum-told3 .given .1) (c .outer2 .ensures ∙ outer-lent 2 _ _ _ (c .before .before .before .before .before .before .before .before .mean-on .ensures .0) (c .before .mean-on4 .ensures .0) refl)
 
 returns-4 : tie.Need-returns-4
 unfolding rowOf sighraTable mandaTable planetApogees
-returns-4 c = rw (c .before .before .before .before .before .before .enum-told4 .given .1) (c .true-planet2 .ensures ∙ inner-planet 3 _ _ _ (c .before .before .before .before .before .before .before .before .mean-on .ensures .0) (c .before .mean-on5 .ensures .0) refl)
+returns-4 c = rw (c .before .before .before .before .before .before .enum-told4 .given .1) (c .true-planet2 .ensures ∙ inner-lent 3 _ _ _ (c .before .before .before .before .before .before .before .before .mean-on .ensures .0) (c .before .mean-on5 .ensures .0) refl)
 
 returns-5 : tie.Need-returns-5
 unfolding rowOf sighraTable mandaTable planetApogees
-returns-5 c = rw (c .before .before .before .before .before .before .enum-told5 .given .1) (c .outer3 .ensures ∙ outer-planet 4 _ _ _ (c .before .before .before .before .before .before .before .before .mean-on .ensures .0) (c .before .mean-on6 .ensures .0) refl)
+returns-5 c = rw (c .before .before .before .before .before .before .enum-told5 .given .1) (c .outer3 .ensures ∙ outer-lent 4 _ _ _ (c .before .before .before .before .before .before .before .before .mean-on .ensures .0) (c .before .mean-on6 .ensures .0) refl)
 
 pub true-on-spec : {M : Type 1} → statement M
 true-on-spec =
