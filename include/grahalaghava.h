@@ -132,6 +132,16 @@ double graha_place_angle(uint32_t day, uint32_t body);
 uint32_t graha_follow_result(uint32_t day, uint32_t body);
 uint32_t graha_follow_order(uint32_t day, uint32_t body);
 double graha_follow_rate(uint32_t day, uint32_t body);
+/* The same at the true places, for a table that shows the sky: of 0 Sun, 1 Moon, 4 Mars, 5 Mercury, 6 Jupiter, 7 Venus
+ * and 8 Saturn the true place, of 2 and 3, the Moon's apogee and node, the mean one, which is all there is. Results,
+ * orders and angles are as above; a rate is at least -2.0 and below 16.0, and negative for a planet that goes
+ * backwards. */
+uint32_t graha_true_place_result(uint32_t day, uint32_t body);
+uint32_t graha_true_place_order(uint32_t day, uint32_t body);
+double graha_true_place_angle(uint32_t day, uint32_t body);
+uint32_t graha_true_follow_result(uint32_t day, uint32_t body);
+uint32_t graha_true_follow_order(uint32_t day, uint32_t body);
+double graha_true_follow_rate(uint32_t day, uint32_t body);
 /* The state of an arm, its angle and its rate, after an order with its value, an angle or a rate. Holding leaves the
  * angle and makes the rate 0.0; going sets the angle and makes the rate 0.0; running sets the rate alone. Any doubles
  * are allowed, and are handed on as they are. Result 3: an order above 2; then both are 0.0. */

@@ -1,20 +1,22 @@
--- The orders case by case: which is refused, and what place and follow give where they are not.
+-- The orders case by case, of any longitude below a circle: which is refused, and what place and follow give where they
+-- are not.
 -- Assumes nothing.
-use mathlib.Core.Path.{_≡_, refl, subst}
+use mathlib.Core.Path.{_≡_, refl, sym, _∙_, subst}
 use Prim.Native.Nat.{ℕ, _<_, _≤_}
 use native.Mathlib.Decide.{decLe}
 use native.Mathlib.Omega.{arith}
 use borrow.Author.Tests.{le-leb, lt-leb, lt-ltb, le-ltb, eq-eqb, ne-eqb}
+use lib.IntN.{pos}
+use lib.Ieee.{Float, round}
 use Rattle.days.specs.Days.{lastDay}
 use Rattle.days.specs.Refusals.{accepted, outOfRange, noSuchBody}
-use lib.IntN.{pos}
-use lib.Ieee.{round}
-use Rattle.longitudes.proofs.Table.{longitude-small}
+use Rattle.longitudes.specs.Longitudes.{circle}
+use Rattle.arms.specs.declared.Order.the-variants.{Hold, Go, Run}
+use Rattle.arms.specs.declared.OrderAnswer.{OrderAnswer}
 use Rattle.arms.specs.Degrees.{degreesOf}
-use Rattle.arms.specs.Orders.{noDegrees, orderRefusal, secondsOn, angleOn, rateOn, held, placeOf, followOf}
-use Rattle.arms.specs.Ranges.{IsAngle, ExactAngle, IsRate}
-use Rattle.arms.proofs.Ranges.{angle-range, exact, rate-range}
-use Rattle.arms.proofs.Motion.{day-way}
+use Rattle.arms.specs.Orders.{noDegrees, orderNumber, orderValue, answerNumbers, orderRefusal, Longitude, angleOn, rateOn, held, placeOf, followOf}
+use Rattle.arms.specs.Ranges.{IsAngle, ExactAngle, IsRate, IsTrueRate}
+use Rattle.arms.proofs.Ranges.{angle-range, exact, rate-range, true-rate-range}
 
 pub day-refused : (day body : ℕ) → lastDay < day → orderRefusal day body ≡ outOfRange
 unfolding orderRefusal
@@ -37,48 +39,53 @@ in-ranges day body e = go (decLe day lastDay) (decLe body 8)
     go (yes h) (no k) = absurd (omega (arith, body-refused day body h (omega arith)))
     go (yes h) (yes k) = (h, k)
 
--- ---- place
-
-pub place-held : (day body : ℕ) → (orderRefusal day body ≡ accepted → ⊥) → placeOf day body ≡ held (orderRefusal day body)
-unfolding placeOf
-place-held day body h = rw (ne-eqb _ _ h)
-
-pub place-goes : (day body : ℕ) → orderRefusal day body ≡ accepted → placeOf day body ≡ record { refusal = accepted; order = 1; value = angleOn day body }
-unfolding placeOf
-place-goes day body e = rw (eq-eqb _ _ e)
-
--- ---- follow
-
-pub follow-held : (day body : ℕ) → (orderRefusal day body ≡ accepted → ⊥) → followOf day body ≡ held (orderRefusal day body)
-unfolding followOf
-follow-held day body h = rw (ne-eqb _ _ h)
-
--- on the last day
-pub follow-ends : (day body : ℕ) → orderRefusal day body ≡ accepted → lastDay ≤ day → followOf day body ≡ held accepted
-unfolding followOf
-follow-ends day body e h = rw (eq-eqb _ _ e, le-ltb _ _ h)
-
-pub follow-runs : (day body : ℕ) → orderRefusal day body ≡ accepted → day < lastDay → followOf day body ≡ record { refusal = accepted; order = 2; value = rateOn day body }
-unfolding followOf
-follow-runs day body e h = rw (eq-eqb _ _ e, lt-ltb _ _ h)
-
--- ---- the ranges
-
 none-is : degreesOf (pos 0) ≡ noDegrees
 unfolding degreesOf round
 none-is = refl
 
-pub hold-angle : IsAngle noDegrees
+hold-angle : IsAngle noDegrees
 hold-angle = subst IsAngle none-is (angle-range 0 (omega arith))
 
 pub hold-rate : IsRate noDegrees
 hold-rate = subst IsRate none-is (rate-range (pos 0) (omega arith))
 
-pub go-angle : (day body : ℕ) → IsAngle (angleOn day body)
-go-angle day body = angle-range (secondsOn day body) (longitude-small body _)
+pub hold-true-rate : IsTrueRate noDegrees
+hold-true-rate = subst IsTrueRate none-is (true-rate-range (pos 0) (omega arith))
 
-pub exact-angle : (day body : ℕ) → ExactAngle day body (angleOn day body)
-exact-angle day body r m = exact (secondsOn day body) (longitude-small body _) m
+-- ---- place, with the refusal r
 
-pub run-rate : (day body : ℕ) → day < lastDay → body ≤ 8 → IsRate (rateOn day body)
-run-rate day body h k = rate-range _ (day-way day body h k)
+-- what it promises of its answer
+abbrev pub Placed : Longitude → ℕ → ℕ → OrderAnswer → Type 0
+Placed at day body a =
+    (answerNumbers a ≡ placeOf at day body) × (IsAngle (orderValue (a .order)) × ExactAngle at day body (orderValue (a .order)))
+
+module _ (at : Longitude) (day body r : ℕ) (e : r ≡ orderRefusal day body) where
+  pub place-held : (r ≡ accepted → ⊥) → Placed at day body (record { refusal = r; order = Hold })
+  unfolding placeOf orderNumber orderValue
+  place-held h =
+      let k : orderRefusal day body ≡ accepted → ⊥ = λ z. h (e ∙ z) in
+      (rw (e, ne-eqb _ _ k), (hold-angle, λ z. absurd (k z)))
+
+  pub place-goes : r ≡ accepted → at day body < circle → (x : Float) → x ≡ angleOn at day body → Placed at day body (record { refusal = r; order = Go x })
+  unfolding placeOf orderNumber orderValue
+  place-goes h small x f =
+      (rw (f, h, eq-eqb _ _ (sym e ∙ h)), (subst IsAngle (sym f) (angle-range _ small), λ z m. subst (λ (y : Float). ExactAngle at day body y) (sym f) (λ u v. exact _ small v) z m))
+
+-- ---- follow, with the refusal r; P is the range of its rates
+
+abbrev pub Followed : Longitude → (Float → Type 0) → ℕ → ℕ → OrderAnswer → Type 0
+Followed at P day body a = (answerNumbers a ≡ followOf at day body) × P (orderValue (a .order))
+
+module _ (at : Longitude) (P : Float → Type 0) (day body r : ℕ) (e : r ≡ orderRefusal day body) where
+  pub follow-held : P noDegrees → (r ≡ accepted → ⊥) → Followed at P day body (record { refusal = r; order = Hold })
+  unfolding followOf orderNumber orderValue
+  follow-held p h = (rw (e, ne-eqb _ _ (λ z. h (e ∙ z))), p)
+
+  -- on the last day
+  pub follow-ends : P noDegrees → r ≡ accepted → lastDay ≤ day → Followed at P day body (record { refusal = r; order = Hold })
+  unfolding followOf orderNumber orderValue
+  follow-ends p h k = (rw (h, eq-eqb _ _ (sym e ∙ h), le-ltb _ _ k), p)
+
+  pub follow-runs : r ≡ accepted → day < lastDay → (x : Float) → x ≡ rateOn at day body → P (rateOn at day body) → Followed at P day body (record { refusal = r; order = Run x })
+  unfolding followOf orderNumber orderValue
+  follow-runs h k x f p = (rw (f, h, eq-eqb _ _ (sym e ∙ h), lt-ltb _ _ k), subst P (sym f) p)

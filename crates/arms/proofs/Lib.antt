@@ -1,7 +1,12 @@
 pub mod Once
 pub mod Ranges
 pub mod ShortWay
+pub mod Goes
 pub mod Motion
 pub mod Parts
+pub mod TrueSeconds
+pub mod Correction
+pub mod Steep
+pub mod TrueMotion
 pub mod Laws
 pub mod Worked

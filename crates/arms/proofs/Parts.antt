@@ -48,6 +48,10 @@ steps-seconds b n h k =
     (day-parts (n % 4016) (m .p) (m .q) (omega arith) (r .divisor) (omega (arith, r .over, remainder-at b (pairAt n) h .small)))
     ∙ r .whole
 
+-- a body's number that is at least k, and another
+pub above : (k n : ℕ) → k ≤ n → (n ≡ k → ⊥) → k + 1 ≤ n
+above k n h e = omega arith
+
 -- the steps of the body's row
 pub steps-for : (b : ℕ) (s : Steps) → b < 9 → s ≡ stepsOf (getD motions b none) → Small (stepsOf (getD motions b none)) → StepsFor b s
 steps-for b s h e small = rw e (record { seconds = λ n k. steps-seconds b n h k; small = small })

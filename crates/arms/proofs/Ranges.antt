@@ -18,7 +18,7 @@ use lib.Ieee.Order.{round-mono}
 use lib.Ieee.Positive.{num, den, positive, den-pos, le→cross, le-trans-positive, through, between}
 use mir.Facts.{or-yes}
 use Rattle.arms.specs.Degrees.{degreesOf}
-use Rattle.arms.specs.Ranges.{isProper, whole, Between, IsAngle, IsRate}
+use Rattle.arms.specs.Ranges.{isProper, whole, Between, IsAngle, IsRate, IsTrueRate}
 
 -- ---- floats above zero, and their negations
 
@@ -156,10 +156,18 @@ one-degree : deg 3600 ≡ fin false 1 (pos 0)
 unfolding round
 one-degree = refl
 
--- the Moon's longest way
+two-degrees : deg 7200 ≡ fin false 1 (pos 1)
+unfolding round
+two-degrees = refl
+
+-- the mean Moon's longest way, and what the true one's is not above
 longest : deg 47444 ≡ fin false 3709527443072323 (negsuc 47)
 unfolding round
 longest = refl
+
+longest-true : deg 54022 ≡ fin false 1055961193879379 (negsuc 45)
+unfolding round
+longest-true = refl
 
 above-zero : (n : ℕ) → 0 < n → n ≤ 1296000 → T (positive (deg n))
 above-zero n h k =
@@ -195,9 +203,17 @@ whole-14 : whole (pos 14) ≡ fin false 7 (pos 1)
 unfolding ofInt round
 whole-14 = refl
 
+whole-16 : whole (pos 16) ≡ fin false 1 (pos 4)
+unfolding ofInt round
+whole-16 = refl
+
 whole-1-back : whole (negℤ (pos 1)) ≡ neg (fin false 1 (pos 0))
 unfolding ofInt round neg
 whole-1-back = refl
+
+whole-2-back : whole (negℤ (pos 2)) ≡ neg (fin false 1 (pos 1))
+unfolding ofInt round neg
+whole-2-back = refl
 
 whole-180-back : whole (negℤ (pos 180)) ≡ neg (fin false 45 (pos 2))
 unfolding ofInt round neg
@@ -259,11 +275,17 @@ way-range =
     ends 648000 647999 180 180 (fin false 45 (pos 2)) (fin false 45 (pos 2)) (fin false 6333177202553069 (negsuc 44)) whole-180-back whole-180 a-second-less-than-half tt tt tt
     (subst (λ (x : Float). T (le (deg 648000) x)) half-circle (mono 648000 648000 (lit≤ tt))) (lit< tt) (lit≤ tt) (lit≤ tt)
 
--- ---- A RATE, from 191 seconds back to 47444 forwards, is at least −1 and below 14
+-- ---- A MEAN RATE, from 191 seconds back to 47444 forwards, is at least −1 and below 14
 pub rate-range : (z : ℤ) → Within 191 47444 z → IsRate (degreesOf z)
 rate-range =
     ends 191 47444 1 14 (fin false 1 (pos 0)) (fin false 7 (pos 1)) (fin false 3709527443072323 (negsuc 47)) whole-1-back whole-14 longest tt tt tt
     (subst (λ (x : Float). T (le (deg 191) x)) one-degree (mono 191 3600 (lit≤ tt))) (lit< tt) (lit≤ tt) (lit≤ tt)
+
+-- ---- A TRUE RATE, from 4030 seconds back to 54022 forwards, is at least −2 and below 16
+pub true-rate-range : (z : ℤ) → Within 4030 54022 z → IsTrueRate (degreesOf z)
+true-rate-range =
+    ends 4030 54022 2 16 (fin false 1 (pos 1)) (fin false 1 (pos 4)) (fin false 1055961193879379 (negsuc 45)) whole-2-back whole-16 longest-true tt tt tt
+    (subst (λ (x : Float). T (le (deg 4030) x)) two-degrees (mono 4030 7200 (lit≤ tt))) (lit< tt) (lit≤ tt) (lit≤ tt)
 
 -- ---- AN ANGLE IS EXACT at a multiple of 225 seconds: a whole number of sixteenths of a degree
 pub exact : (n : ℕ) → n < 1296000 → n % 225 ≡ 0 → HasValue (degreesOf (pos n)) false n 3600

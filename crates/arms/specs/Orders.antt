@@ -2,13 +2,16 @@
 -- case.
 -- Assumes nothing.
 use mathlib.Core.Bool.{false, cond}
-use Prim.Native.Nat.{ℕ, _+_}
+use Prim.Native.Nat.{ℕ, _+_, _-_}
 use lib.Dec.{leb, ltb, eqb}
 use lib.IntN.{pos}
 use lib.Ieee.{Float, fin}
 use Rattle.days.specs.Days.{lastDay, pairAt}
 use Rattle.days.specs.Refusals.{accepted, outOfRange, badInput, noSuchBody}
 use Rattle.longitudes.specs.Longitudes.{longitudeAt}
+use Rattle.panchanga.specs.TrueLongitudes.{firstEdition}
+use Rattle.panchanga.specs.OnDays.{trueSunAt, trueMoonAt}
+use Rattle.planets.specs.OnDays.{truePlanetAt}
 use Rattle.arms.specs.declared.Arm.{Arm}
 use Rattle.arms.specs.declared.ArmAnswer.{ArmAnswer}
 use Rattle.arms.specs.declared.Order.{Order}
@@ -61,30 +64,44 @@ answerNumbers a = record { refusal = a .refusal; order = orderNumber (a .order);
 unfoldable pub orderRefusal : ℕ → ℕ → ℕ
 orderRefusal day body = cond (leb day lastDay) (cond (leb body 8) accepted noSuchBody) outOfRange
 
--- a body's whole seconds on a day
-abbrev pub secondsOn : ℕ → ℕ → ℕ
+-- where a body stands on a day, both by their numbers: whole seconds, below a circle
+abbrev pub Longitude : Type 0
+Longitude = ℕ → ℕ → ℕ
+
+-- THE MEAN ONE, of Mercury and Venus the anomaly
+abbrev pub secondsOn : Longitude
 secondsOn day body = longitudeAt body (pairAt day)
 
-abbrev pub angleOn : ℕ → ℕ → Float
-angleOn day body = degreesOf (pos (secondsOn day body))
+-- THE TRUE ONE: 0 the Sun's, 1 the Moon's of the first edition, 4 to 8 the planets'; of 2 and 3, the Moon's apogee and
+-- node, there is the mean one alone
+unfoldable pub trueSecondsOn : Longitude
+trueSecondsOn day body =
+    cond (eqb body 0) (trueSunAt (pairAt day))
+    (cond (eqb body 1) (trueMoonAt firstEdition (pairAt day))
+    (cond (ltb body 4) (secondsOn day body)
+    (truePlanetAt (body - 4) (pairAt day))))
+
+-- what follows is of any of them
+abbrev pub angleOn : Longitude → ℕ → ℕ → Float
+angleOn at day body = degreesOf (pos (at day body))
 
 -- the short way to the next day's seconds
-abbrev pub rateOn : ℕ → ℕ → Float
-rateOn day body = degreesOf (shortWay (secondsOn day body) (secondsOn (day + 1) body))
+abbrev pub rateOn : Longitude → ℕ → ℕ → Float
+rateOn at day body = degreesOf (shortWay (at day body) (at (day + 1) body))
 
 abbrev pub held : ℕ → AnswerNumbers
 held refusal = record { refusal = refusal; order = 0; value = noDegrees }
 
 -- TO PLACE a body on a day is to go to its angle; where that is refused, to hold
-unfoldable pub placeOf : ℕ → ℕ → AnswerNumbers
-placeOf day body =
+unfoldable pub placeOf : Longitude → ℕ → ℕ → AnswerNumbers
+placeOf at day body =
     cond (eqb (orderRefusal day body) accepted)
-    (record { refusal = accepted; order = 1; value = angleOn day body })
+    (record { refusal = accepted; order = 1; value = angleOn at day body })
     (held (orderRefusal day body))
 
 -- TO FOLLOW it is to run at its rate, and on the last day to hold; where that is refused, to hold
-unfoldable pub followOf : ℕ → ℕ → AnswerNumbers
-followOf day body =
+unfoldable pub followOf : Longitude → ℕ → ℕ → AnswerNumbers
+followOf at day body =
     cond (eqb (orderRefusal day body) accepted)
-    (cond (ltb day lastDay) (record { refusal = accepted; order = 2; value = rateOn day body }) (held accepted))
+    (cond (ltb day lastDay) (record { refusal = accepted; order = 2; value = rateOn at day body }) (held accepted))
     (held (orderRefusal day body))

@@ -8,7 +8,7 @@ use lib.IntN.{ℤ, pos, negℤ}
 use lib.Ieee.{Float, nan, inf, fin, binary64, ofInt, le, lt}
 use lib.Ieee.Exact.{HasValue}
 use Rattle.days.specs.Refusals.{accepted}
-use Rattle.arms.specs.Orders.{orderRefusal, secondsOn}
+use Rattle.arms.specs.Orders.{orderRefusal, Longitude}
 
 -- neither a NaN nor an infinity nor the negative zero
 unfoldable pub isProper : Float → Bool
@@ -31,9 +31,13 @@ abbrev pub IsAngle : Float → Type 0
 IsAngle x = Between (pos 0) (pos 360) x
 
 -- where the seconds are a multiple of 225, the angle is exactly their 3600th part
-abbrev pub ExactAngle : ℕ → ℕ → Float → Type 0
-ExactAngle day body x = orderRefusal day body ≡ accepted → secondsOn day body % 225 ≡ 0 → HasValue x false (secondsOn day body) 3600
+abbrev pub ExactAngle : Longitude → ℕ → ℕ → Float → Type 0
+ExactAngle at day body x = orderRefusal day body ≡ accepted → at day body % 225 ≡ 0 → HasValue x false (at day body) 3600
 
--- at least −1 and below 14 degrees a day
+-- a mean body's: at least −1 and below 14 degrees a day
 abbrev pub IsRate : Float → Type 0
 IsRate x = Between (negℤ (pos 1)) (pos 14) x
+
+-- a true one's: at least −2 and below 16 degrees a day
+abbrev pub IsTrueRate : Float → Type 0
+IsTrueRate x = Between (negℤ (pos 2)) (pos 16) x

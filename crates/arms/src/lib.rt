@@ -4,13 +4,15 @@ use days::Day;
 use days::refusal;
 use longitudes::CIRCLE;
 use longitudes::Motion;
+use panchanga::FIRST_EDITION;
+use planets::Planet;
 ghost use mathlib.Core.Path.{_≡_};
 ghost use Prim.Native.Nat.{_+_, _≤_, _<_};
 ghost use Rattle.days.specs.Days.{lastDay};
 ghost use Rattle.longitudes.specs.Longitudes.{differenceOf};
 ghost use Rattle.arms.specs.Degrees.{degreesOf};
-ghost use Rattle.arms.specs.Orders.{orderNumber, orderValue, carriedOut, carriedOutNumbered, orderRefusal, angleOn, rateOn, placeOf, followOf, answerNumbers};
-ghost use Rattle.arms.specs.Ranges.{IsAngle, ExactAngle, IsRate};
+ghost use Rattle.arms.specs.Orders.{orderNumber, orderValue, carriedOut, carriedOutNumbered, orderRefusal, secondsOn, trueSecondsOn, angleOn, rateOn, placeOf, followOf, answerNumbers};
+ghost use Rattle.arms.specs.Ranges.{IsAngle, ExactAngle, IsRate, IsTrueRate};
 ghost use Rattle.arms.specs.Parts.{Reckonable, stepsOf, secondsBy, Small, StepsFor, signedWay};
 
 // What an arm is told: to stay where it is, to go to an angle, or to run on at a rate.
@@ -209,7 +211,7 @@ fn forwards_by(steps: Steps, day: u32) -> u32
 
 fn angle_on(day: u32, body: u32) -> f64
     requires { ⌜ (day ≤ lastDay) × (body ≤ 8) ⌝ }
-    ensures { λ r. ⌜ r ≡ angleOn day body ⌝ }
+    ensures { λ r. ⌜ r ≡ angleOn secondsOn day body ⌝ }
 {
     let steps = steps_for(body);
     let at = seconds_by(steps, day);
@@ -218,10 +220,46 @@ fn angle_on(day: u32, body: u32) -> f64
 
 fn rate_on(day: u32, body: u32) -> f64
     requires { ⌜ (day < lastDay) × (body ≤ 8) ⌝ }
-    ensures { λ r. ⌜ r ≡ rateOn day body ⌝ }
+    ensures { λ r. ⌜ r ≡ rateOn secondsOn day body ⌝ }
 {
     let steps = steps_for(body);
     let forwards = forwards_by(steps, day);
+    degrees(signed_way(forwards))
+}
+
+// The true whole seconds on a day; the Moon's apogee and node have the mean ones alone.
+fn true_seconds(day: u32, body: u32) -> u32
+    requires { ⌜ (day ≤ lastDay) × (body ≤ 8) ⌝ }
+    ensures { λ r. ⌜ (r ≡ trueSecondsOn day body) × (r < 1296000) ⌝ }
+{
+    let pair = Day::at(day);
+    match body {
+        0 => panchanga::true_sun(pair).number,
+        1 => panchanga::true_moon(FIRST_EDITION, pair).number,
+        2 | 3 => seconds_by(steps_for(body), day),
+        4 => planets::true_longitude(Planet::Mars, pair).number,
+        5 => planets::true_longitude(Planet::Mercury, pair).number,
+        6 => planets::true_longitude(Planet::Jupiter, pair).number,
+        7 => planets::true_longitude(Planet::Venus, pair).number,
+        _ => planets::true_longitude(Planet::Saturn, pair).number,
+    }
+}
+
+fn true_angle_on(day: u32, body: u32) -> f64
+    requires { ⌜ (day ≤ lastDay) × (body ≤ 8) ⌝ }
+    ensures { λ r. ⌜ r ≡ angleOn trueSecondsOn day body ⌝ }
+{
+    let at = true_seconds(day, body);
+    degrees(at as i32)
+}
+
+fn true_rate_on(day: u32, body: u32) -> f64
+    requires { ⌜ (day < lastDay) × (body ≤ 8) ⌝ }
+    ensures { λ r. ⌜ r ≡ rateOn trueSecondsOn day body ⌝ }
+{
+    let from = true_seconds(day, body);
+    let to = true_seconds(day + 1, body);
+    let forwards = panchanga::difference_on_circle(to, from);
     degrees(signed_way(forwards))
 }
 
@@ -240,9 +278,9 @@ fn refusal_on(day: u32, body: u32) -> u32
 
 // To place a body by its number on a day: the order to go to its angle.
 pub fn place(day: u32, body: u32) -> OrderAnswer
-    ensures meant { λ r. ⌜ answerNumbers r ≡ placeOf day body ⌝ }
+    ensures meant { λ r. ⌜ answerNumbers r ≡ placeOf secondsOn day body ⌝ }
     ensures range { λ r. ⌜ IsAngle (orderValue (r .order)) ⌝ }
-    ensures exact { λ r. ⌜ ExactAngle day body (orderValue (r .order)) ⌝ }
+    ensures exact { λ r. ⌜ ExactAngle secondsOn day body (orderValue (r .order)) ⌝ }
 {
     let refusal = refusal_on(day, body);
     if refusal != refusal::NONE {
@@ -260,7 +298,7 @@ pub fn place(day: u32, body: u32) -> OrderAnswer
 
 // To follow a body by its number from a day to the next: the order to run at its rate, on the last day to hold.
 pub fn follow(day: u32, body: u32) -> OrderAnswer
-    ensures meant { λ r. ⌜ answerNumbers r ≡ followOf day body ⌝ }
+    ensures meant { λ r. ⌜ answerNumbers r ≡ followOf secondsOn day body ⌝ }
     ensures range { λ r. ⌜ IsRate (orderValue (r .order)) ⌝ }
 {
     let refusal = refusal_on(day, body);
@@ -277,6 +315,51 @@ pub fn follow(day: u32, body: u32) -> OrderAnswer
         };
     }
     let rate = rate_on(day, body);
+    OrderAnswer {
+        refusal,
+        order: Order::Run(rate),
+    }
+}
+
+// As `place`, at the true longitude.
+pub fn true_place(day: u32, body: u32) -> OrderAnswer
+    ensures meant { λ r. ⌜ answerNumbers r ≡ placeOf trueSecondsOn day body ⌝ }
+    ensures range { λ r. ⌜ IsAngle (orderValue (r .order)) ⌝ }
+    ensures exact { λ r. ⌜ ExactAngle trueSecondsOn day body (orderValue (r .order)) ⌝ }
+{
+    let refusal = refusal_on(day, body);
+    if refusal != refusal::NONE {
+        return OrderAnswer {
+            refusal,
+            order: Order::Hold,
+        };
+    }
+    let angle = true_angle_on(day, body);
+    OrderAnswer {
+        refusal,
+        order: Order::Go(angle),
+    }
+}
+
+// As `follow`, by the true longitudes: backwards for a planet that goes backwards.
+pub fn true_follow(day: u32, body: u32) -> OrderAnswer
+    ensures meant { λ r. ⌜ answerNumbers r ≡ followOf trueSecondsOn day body ⌝ }
+    ensures range { λ r. ⌜ IsTrueRate (orderValue (r .order)) ⌝ }
+{
+    let refusal = refusal_on(day, body);
+    if refusal != refusal::NONE {
+        return OrderAnswer {
+            refusal,
+            order: Order::Hold,
+        };
+    }
+    if Day::LAST == day {
+        return OrderAnswer {
+            refusal,
+            order: Order::Hold,
+        };
+    }
+    let rate = true_rate_on(day, body);
     OrderAnswer {
         refusal,
         order: Order::Run(rate),

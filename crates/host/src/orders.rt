@@ -3,12 +3,12 @@
 use arms::Arm;
 use arms::ArmAnswer;
 ghost use mathlib.Core.Path.{_≡_};
-ghost use Rattle.arms.specs.Orders.{placeOf, followOf, carriedOutNumbered};
-ghost use Rattle.arms.specs.Ranges.{IsAngle, ExactAngle, IsRate};
+ghost use Rattle.arms.specs.Orders.{secondsOn, trueSecondsOn, placeOf, followOf, carriedOutNumbered};
+ghost use Rattle.arms.specs.Ranges.{IsAngle, ExactAngle, IsRate, IsTrueRate};
 
 #[no_mangle]
 pub extern "C" fn graha_place_result(day: u32, body: u32) -> u32
-    ensures { λ r. ⌜ r ≡ placeOf day body .refusal ⌝ }
+    ensures { λ r. ⌜ r ≡ placeOf secondsOn day body .refusal ⌝ }
 {
     arms::place(day, body).refusal
 }
@@ -16,7 +16,7 @@ pub extern "C" fn graha_place_result(day: u32, body: u32) -> u32
 // 1 to go; 0 to hold where it is refused.
 #[no_mangle]
 pub extern "C" fn graha_place_order(day: u32, body: u32) -> u32
-    ensures { λ r. ⌜ r ≡ placeOf day body .order ⌝ }
+    ensures { λ r. ⌜ r ≡ placeOf secondsOn day body .order ⌝ }
 {
     let go = arms::place(day, body).order;
     go.number()
@@ -25,9 +25,9 @@ pub extern "C" fn graha_place_order(day: u32, body: u32) -> u32
 // In degrees; 0 where it is refused.
 #[no_mangle]
 pub extern "C" fn graha_place_angle(day: u32, body: u32) -> f64
-    ensures { λ r. ⌜ r ≡ placeOf day body .value ⌝ }
+    ensures { λ r. ⌜ r ≡ placeOf secondsOn day body .value ⌝ }
     ensures { λ r. ⌜ IsAngle r ⌝ }
-    ensures { λ r. ⌜ ExactAngle day body r ⌝ }
+    ensures { λ r. ⌜ ExactAngle secondsOn day body r ⌝ }
 {
     let order = arms::place(day, body).order;
     order.value()
@@ -35,7 +35,7 @@ pub extern "C" fn graha_place_angle(day: u32, body: u32) -> f64
 
 #[no_mangle]
 pub extern "C" fn graha_follow_result(day: u32, body: u32) -> u32
-    ensures { λ r. ⌜ r ≡ followOf day body .refusal ⌝ }
+    ensures { λ r. ⌜ r ≡ followOf secondsOn day body .refusal ⌝ }
 {
     arms::follow(day, body).refusal
 }
@@ -43,7 +43,7 @@ pub extern "C" fn graha_follow_result(day: u32, body: u32) -> u32
 // 0 to hold, 2 to run.
 #[no_mangle]
 pub extern "C" fn graha_follow_order(day: u32, body: u32) -> u32
-    ensures { λ r. ⌜ r ≡ followOf day body .order ⌝ }
+    ensures { λ r. ⌜ r ≡ followOf secondsOn day body .order ⌝ }
 {
     let order = arms::follow(day, body).order;
     order.number()
@@ -52,10 +52,60 @@ pub extern "C" fn graha_follow_order(day: u32, body: u32) -> u32
 // In degrees a day; 0 where it is refused or the order is to hold.
 #[no_mangle]
 pub extern "C" fn graha_follow_rate(day: u32, body: u32) -> f64
-    ensures { λ r. ⌜ r ≡ followOf day body .value ⌝ }
+    ensures { λ r. ⌜ r ≡ followOf secondsOn day body .value ⌝ }
     ensures { λ r. ⌜ IsRate r ⌝ }
 {
     let run = arms::follow(day, body).order;
+    run.value()
+}
+
+// The same at the true longitudes.
+#[no_mangle]
+pub extern "C" fn graha_true_place_result(day: u32, body: u32) -> u32
+    ensures { λ r. ⌜ r ≡ placeOf trueSecondsOn day body .refusal ⌝ }
+{
+    arms::true_place(day, body).refusal
+}
+
+#[no_mangle]
+pub extern "C" fn graha_true_place_order(day: u32, body: u32) -> u32
+    ensures { λ r. ⌜ r ≡ placeOf trueSecondsOn day body .order ⌝ }
+{
+    let go = arms::true_place(day, body).order;
+    go.number()
+}
+
+#[no_mangle]
+pub extern "C" fn graha_true_place_angle(day: u32, body: u32) -> f64
+    ensures { λ r. ⌜ r ≡ placeOf trueSecondsOn day body .value ⌝ }
+    ensures { λ r. ⌜ IsAngle r ⌝ }
+    ensures { λ r. ⌜ ExactAngle trueSecondsOn day body r ⌝ }
+{
+    let order = arms::true_place(day, body).order;
+    order.value()
+}
+
+#[no_mangle]
+pub extern "C" fn graha_true_follow_result(day: u32, body: u32) -> u32
+    ensures { λ r. ⌜ r ≡ followOf trueSecondsOn day body .refusal ⌝ }
+{
+    arms::true_follow(day, body).refusal
+}
+
+#[no_mangle]
+pub extern "C" fn graha_true_follow_order(day: u32, body: u32) -> u32
+    ensures { λ r. ⌜ r ≡ followOf trueSecondsOn day body .order ⌝ }
+{
+    let order = arms::true_follow(day, body).order;
+    order.number()
+}
+
+#[no_mangle]
+pub extern "C" fn graha_true_follow_rate(day: u32, body: u32) -> f64
+    ensures { λ r. ⌜ r ≡ followOf trueSecondsOn day body .value ⌝ }
+    ensures { λ r. ⌜ IsTrueRate r ⌝ }
+{
+    let run = arms::true_follow(day, body).order;
     run.value()
 }
 

@@ -1,11 +1,15 @@
--- `follow` meets its contract: held where it is refused and on the last day, else it runs at the rate, whose range is a
--- law. Assumes nothing.
+-- `follow` meets its contract: held where it is refused and on the last day, else it runs at the rate; the laws are of
+-- any longitude, and the range is how far a mean body goes in a day. Assumes nothing.
 use borrow.Author.Needs.{needs}
-use mathlib.Core.Path.{_≡_, sym, _∙_, subst}
+use mathlib.Core.Path.{_≡_, sym, _∙_}
+use Prim.Native.Nat.{_<_, _≤_}
 use native.Mathlib.Omega.{arith}
-use Rattle.arms.specs.Orders.{orderNumber, orderValue, orderRefusal}
+use Rattle.days.specs.Days.{lastDay}
+use Rattle.arms.specs.Orders.{secondsOn}
 use Rattle.arms.specs.Ranges.{IsRate}
-use Rattle.arms.proofs.Laws.{in-ranges, follow-held, follow-ends, follow-runs, hold-rate, run-rate}
+use Rattle.arms.proofs.Laws.{in-ranges, follow-held, follow-ends, follow-runs, hold-rate}
+use Rattle.arms.proofs.Motion.{day-way}
+use Rattle.arms.proofs.Ranges.{rate-range}
 use Rattle.arms.proofs.follow.Statement.{statement}
 use Rattle.arms.proofs.follow.Tie as tie
 
@@ -13,27 +17,22 @@ refusal-on-requires : tie.Need-refusal-on-requires
 refusal-on-requires c κs = search needs
 
 returns : tie.Need-returns
-unfolding orderNumber orderValue
-returns c = let e = c .before .refusal-on .ensures in (rw e (sym (follow-held _ _ (λ k. c .if1 .taken (e ∙ k)))), hold-rate)
-
-accepted : (c : tie.Else1) → orderRefusal (c .before .before .args .day) (c .before .before .args .body) ≡ 0
-accepted c = sym (c .before .refusal-on .ensures) ∙ c .if1 .left
+returns c = follow-held secondsOn IsRate _ _ _ (c .before .refusal-on .ensures) hold-rate (c .if1 .taken)
 
 returns-2 : tie.Need-returns-2
-unfolding orderNumber orderValue
-returns-2 c = (rw (c .before .if1 .left) (sym (follow-ends _ _ (accepted (c .before)) (omega (arith, c .if2 .taken)))), hold-rate)
+returns-2 c = follow-ends secondsOn IsRate _ _ _ (c .before .before .refusal-on .ensures) hold-rate (c .before .if1 .left) (omega (arith, c .if2 .taken))
+
+-- where it runs there is a next day, and such a body
+ranges : (c : tie.Else2) → (c .before .before .before .args .day < lastDay) × (c .before .before .before .args .body ≤ 8)
+ranges c = let r = in-ranges _ _ (sym (c .before .before .refusal-on .ensures) ∙ c .before .if1 .left) in (omega (arith, r .0, c .if2 .left), r .1)
 
 rate-on-requires : tie.Need-rate-on-requires
-rate-on-requires c κs = let r = in-ranges _ _ (accepted (c .before)) in (omega (arith, r .0, c .if2 .left), r .1)
+rate-on-requires c κs = ranges c
 
 returns-3 : tie.Need-returns-3
-unfolding orderNumber orderValue
 returns-3 c =
-    let e = c .rate-on .ensures in
-    let r = in-ranges _ _ (accepted (c .before .before)) in (
-      rw (c .before .before .if1 .left, e) (sym (follow-runs _ _ (accepted (c .before .before)) (omega (arith, r .0, c .before .if2 .left)))),
-      subst IsRate (sym e) (run-rate _ _ (omega (arith, r .0, c .before .if2 .left)) (r .1)),
-    )
+    let r = ranges (c .before) in
+    follow-runs secondsOn IsRate _ _ _ (c .before .before .before .refusal-on .ensures) (c .before .before .if1 .left) (r .0) _ (c .rate-on .ensures) (rate-range _ (day-way _ _ (r .0) (r .1)))
 
 pub follow-spec : {M : Type 1} → statement M
 follow-spec = tie.close (tie.spec refusal-on-requires returns returns-2 rate-on-requires returns-3)

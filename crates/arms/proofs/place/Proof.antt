@@ -1,10 +1,10 @@
--- `place` meets its contract: held where it is refused, else it goes to the angle, whose range and exact case are laws.
+-- `place` meets its contract: held where it is refused, else it goes to the angle; the laws are of any longitude.
 -- Assumes nothing.
 use borrow.Author.Needs.{needs}
-use mathlib.Core.Path.{_≡_, sym, _∙_, subst}
-use Rattle.arms.specs.Orders.{orderNumber, orderValue, orderRefusal}
-use Rattle.arms.specs.Ranges.{IsAngle, ExactAngle}
-use Rattle.arms.proofs.Laws.{in-ranges, place-held, place-goes, hold-angle, go-angle, exact-angle}
+use mathlib.Core.Path.{sym, _∙_}
+use Rattle.longitudes.proofs.Table.{longitude-small}
+use Rattle.arms.specs.Orders.{secondsOn}
+use Rattle.arms.proofs.Laws.{in-ranges, place-held, place-goes}
 use Rattle.arms.proofs.place.Statement.{statement}
 use Rattle.arms.proofs.place.Tie as tie
 
@@ -12,25 +12,13 @@ refusal-on-requires : tie.Need-refusal-on-requires
 refusal-on-requires c κs = search needs
 
 returns : tie.Need-returns
-unfolding orderNumber orderValue
-returns c =
-    let e = c .before .refusal-on .ensures in
-    let h : orderRefusal (c .before .before .args .day) (c .before .before .args .body) ≡ 0 → ⊥ = λ k. c .if1 .taken (e ∙ k) in
-    (rw e (sym (place-held _ _ h)), (hold-angle, λ k. absurd (h k)))
-
-accepted : (c : tie.Else1) → orderRefusal (c .before .before .args .day) (c .before .before .args .body) ≡ 0
-accepted c = sym (c .before .refusal-on .ensures) ∙ c .if1 .left
+returns c = place-held secondsOn _ _ _ (c .before .refusal-on .ensures) (c .if1 .taken)
 
 angle-on-requires : tie.Need-angle-on-requires
-angle-on-requires c κs = in-ranges _ _ (accepted c)
+angle-on-requires c κs = in-ranges _ _ (sym (c .before .refusal-on .ensures) ∙ c .if1 .left)
 
 returns-2 : tie.Need-returns-2
-unfolding orderNumber orderValue
-returns-2 c =
-    let e = c .angle-on .ensures in (
-      rw (c .before .if1 .left, e) (sym (place-goes _ _ (accepted (c .before)))),
-      (subst IsAngle (sym e) (go-angle _ _), subst (ExactAngle _ _) (sym e) (exact-angle _ _)),
-    )
+returns-2 c = place-goes secondsOn _ _ _ (c .before .before .refusal-on .ensures) (c .before .if1 .left) (longitude-small _ _) _ (c .angle-on .ensures)
 
 pub place-spec : {M : Type 1} → statement M
 place-spec = tie.close (tie.spec refusal-on-requires returns angle-on-requires returns-2)

@@ -1,11 +1,11 @@
 -- `steps_for` meets its contract: each case is the body with that number, whose row is the table's. Assumes nothing.
 use mathlib.Core.Path.{_≡_}
-use Prim.Native.Nat.{ℕ, _+_, _≤_, zero-le}
+use Prim.Native.Nat.{_≤_, zero-le}
 use native.Mathlib.Nat.{le-antisymm}
 use native.Mathlib.Omega.{arith}
 use Rattle.longitudes.specs.Longitudes.{table}
 use Rattle.arms.specs.Parts.{stepsOf}
-use Rattle.arms.proofs.Parts.{steps-for}
+use Rattle.arms.proofs.Parts.{above, steps-for}
 use borrow.Author.Needs.{needs}
 use Rattle.arms.proofs.steps_for.Statement.{statement}
 use Rattle.arms.proofs.steps_for.Tie as tie
@@ -68,9 +68,6 @@ returns-7 c = let e : c .before .before .args .body ≡ 6 = omega arith in rw e 
 returns-8 : tie.Need-returns-8
 unfolding table stepsOf
 returns-8 c = let e : c .before .before .args .body ≡ 7 = omega arith in rw e (steps-for 7 _ (omega arith) (c .steps-of8 .ensures) (omega arith))
-
-above : (k n : ℕ) → k ≤ n → (n ≡ k → ⊥) → k + 1 ≤ n
-above k n h e = omega arith
 
 returns-9 : tie.Need-returns-9
 unfolding table stepsOf
