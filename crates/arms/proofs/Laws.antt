@@ -1,11 +1,13 @@
 -- The orders case by case, of any longitude below a circle: which is refused, and what place and follow give where they
 -- are not.
 -- Assumes nothing.
+use mathlib.Core.Bool.{Bool, true, false, cond}
 use mathlib.Core.Path.{_≡_, refl, sym, _∙_, subst}
 use Prim.Native.Nat.{ℕ, _<_, _≤_}
 use native.Mathlib.Decide.{decLe}
 use native.Mathlib.Omega.{arith}
 use borrow.Author.Tests.{le-leb, lt-leb, lt-ltb, le-ltb, eq-eqb, ne-eqb}
+use lib.Dec.{ltb, eqb}
 use lib.IntN.{pos}
 use lib.Ieee.{Float, round}
 use Rattle.days.specs.Days.{lastDay}
@@ -14,7 +16,7 @@ use Rattle.longitudes.specs.Longitudes.{circle}
 use Rattle.arms.specs.declared.Order.the-variants.{Hold, Go, Run}
 use Rattle.arms.specs.declared.OrderAnswer.{OrderAnswer}
 use Rattle.arms.specs.Degrees.{degreesOf}
-use Rattle.arms.specs.Orders.{noDegrees, orderNumber, orderValue, answerNumbers, orderRefusal, Longitude, angleOn, rateOn, held, placeOf, followOf}
+use Rattle.arms.specs.Orders.{AnswerNumbers, noDegrees, orderNumber, orderValue, answerNumbers, orderRefusal, Longitude, angleOn, rateOn, held, placeOf, followOf}
 use Rattle.arms.specs.Ranges.{IsAngle, ExactAngle, IsRate, IsTrueRate}
 use Rattle.arms.proofs.Ranges.{angle-range, exact, rate-range, true-rate-range}
 
@@ -89,3 +91,31 @@ module _ (at : Longitude) (P : Float → Type 0) (day body r : ℕ) (e : r ≡ o
   pub follow-runs : r ≡ accepted → day < lastDay → (x : Float) → x ≡ rateOn at day body → P (rateOn at day body) → Followed at P day body (record { refusal = r; order = Run x })
   unfolding followOf orderNumber orderValue
   follow-runs h k x f p = (rw (f, h, eq-eqb _ _ (sym e ∙ h), lt-ltb _ _ k), subst P (sym f) p)
+
+-- ---- whether an order is refused, and which it is, hangs on no longitude
+
+abbrev pub Alike : AnswerNumbers → AnswerNumbers → Type 0
+Alike a b = (a .refusal ≡ b .refusal) × (a .order ≡ b .order)
+
+pub place-alike : (at other : Longitude) (day body : ℕ) → Alike (placeOf at day body) (placeOf other day body)
+unfolding placeOf
+place-alike at other day body = go (eqb (orderRefusal day body) accepted)
+  where
+    gone : Longitude → AnswerNumbers
+    gone l = record { refusal = accepted; order = 1; value = angleOn l day body }
+
+    go : (t : Bool) → Alike (cond t (gone at) (held (orderRefusal day body))) (cond t (gone other) (held (orderRefusal day body)))
+    go true = (refl, refl)
+    go false = (refl, refl)
+
+pub follow-alike : (at other : Longitude) (day body : ℕ) → Alike (followOf at day body) (followOf other day body)
+unfolding followOf
+follow-alike at other day body = go (eqb (orderRefusal day body) accepted) (ltb day lastDay)
+  where
+    run : Longitude → AnswerNumbers
+    run l = record { refusal = accepted; order = 2; value = rateOn l day body }
+
+    go : (t u : Bool) → Alike (cond t (cond u (run at) (held accepted)) (held (orderRefusal day body))) (cond t (cond u (run other) (held accepted)) (held (orderRefusal day body)))
+    go true true = (refl, refl)
+    go true false = (refl, refl)
+    go false u = (refl, refl)

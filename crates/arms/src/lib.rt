@@ -10,6 +10,7 @@ ghost use mathlib.Core.Path.{_≡_};
 ghost use Prim.Native.Nat.{_+_, _≤_, _<_};
 ghost use Rattle.days.specs.Days.{lastDay};
 ghost use Rattle.longitudes.specs.Longitudes.{differenceOf};
+ghost use Rattle.planets.specs.OnDays.{planetNumber};
 ghost use Rattle.arms.specs.Degrees.{degreesOf};
 ghost use Rattle.arms.specs.Orders.{orderNumber, orderValue, carriedOut, carriedOutNumbered, orderRefusal, secondsOn, trueSecondsOn, angleOn, rateOn, placeOf, followOf, answerNumbers};
 ghost use Rattle.arms.specs.Ranges.{IsAngle, ExactAngle, IsRate, IsTrueRate};
@@ -227,6 +228,20 @@ fn rate_on(day: u32, body: u32) -> f64
     degrees(signed_way(forwards))
 }
 
+// The planet with a body's number.
+fn planet_of(body: u32) -> Planet
+    requires { ⌜ (4 ≤ body) × (body ≤ 8) ⌝ }
+    ensures { λ r. ⌜ body ≡ 4 + planetNumber r ⌝ }
+{
+    match body {
+        4 => Planet::Mars,
+        5 => Planet::Mercury,
+        6 => Planet::Jupiter,
+        7 => Planet::Venus,
+        _ => Planet::Saturn,
+    }
+}
+
 // The true whole seconds on a day; the Moon's apogee and node have the mean ones alone.
 fn true_seconds(day: u32, body: u32) -> u32
     requires { ⌜ (day ≤ lastDay) × (body ≤ 8) ⌝ }
@@ -237,11 +252,19 @@ fn true_seconds(day: u32, body: u32) -> u32
         0 => panchanga::true_sun(pair).number,
         1 => panchanga::true_moon(FIRST_EDITION, pair).number,
         2 | 3 => seconds_by(steps_for(body), day),
-        4 => planets::true_longitude(Planet::Mars, pair).number,
-        5 => planets::true_longitude(Planet::Mercury, pair).number,
-        6 => planets::true_longitude(Planet::Jupiter, pair).number,
-        7 => planets::true_longitude(Planet::Venus, pair).number,
-        _ => planets::true_longitude(Planet::Saturn, pair).number,
+        _ => planets::true_longitude(planet_of(body), pair).number,
+    }
+}
+
+// The way forwards from a longitude to another.
+fn forwards_to(from: u32, to: u32) -> u32
+    requires { ⌜ (from < 1296000) × (to < 1296000) ⌝ }
+    ensures { λ r. ⌜ (r ≡ differenceOf to from) × (r < 1296000) ⌝ }
+{
+    if from <= to {
+        to - from
+    } else {
+        to + CIRCLE - from
     }
 }
 
@@ -259,7 +282,7 @@ fn true_rate_on(day: u32, body: u32) -> f64
 {
     let from = true_seconds(day, body);
     let to = true_seconds(day + 1, body);
-    let forwards = panchanga::difference_on_circle(to, from);
+    let forwards = forwards_to(from, to);
     degrees(signed_way(forwards))
 }
 

@@ -59,20 +59,22 @@ pub extern "C" fn graha_follow_rate(day: u32, body: u32) -> f64
     run.value()
 }
 
-// The same at the true longitudes.
+// The same at the true longitudes. Whether an order is refused, and which it is, hangs on no longitude: these four ask
+// for the mean place's, and reckon none.
 #[no_mangle]
 pub extern "C" fn graha_true_place_result(day: u32, body: u32) -> u32
     ensures { λ r. ⌜ r ≡ placeOf trueSecondsOn day body .refusal ⌝ }
 {
-    arms::true_place(day, body).refusal
+    let alike = arms::place(day, body);
+    alike.refusal
 }
 
 #[no_mangle]
 pub extern "C" fn graha_true_place_order(day: u32, body: u32) -> u32
     ensures { λ r. ⌜ r ≡ placeOf trueSecondsOn day body .order ⌝ }
 {
-    let go = arms::true_place(day, body).order;
-    go.number()
+    let alike = arms::place(day, body).order;
+    alike.number()
 }
 
 #[no_mangle]
@@ -89,15 +91,16 @@ pub extern "C" fn graha_true_place_angle(day: u32, body: u32) -> f64
 pub extern "C" fn graha_true_follow_result(day: u32, body: u32) -> u32
     ensures { λ r. ⌜ r ≡ followOf trueSecondsOn day body .refusal ⌝ }
 {
-    arms::true_follow(day, body).refusal
+    let alike = arms::follow(day, body);
+    alike.refusal
 }
 
 #[no_mangle]
 pub extern "C" fn graha_true_follow_order(day: u32, body: u32) -> u32
     ensures { λ r. ⌜ r ≡ followOf trueSecondsOn day body .order ⌝ }
 {
-    let order = arms::true_follow(day, body).order;
-    order.number()
+    let alike = arms::follow(day, body).order;
+    alike.number()
 }
 
 #[no_mangle]

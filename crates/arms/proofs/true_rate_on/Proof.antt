@@ -1,12 +1,10 @@
 -- `true_rate_on` meets its contract: the short way of the way forwards between the seconds of the two days. Assumes
 -- nothing.
 use mathlib.Core.Path.{sym, ap, ap₂, _∙_, subst}
-use native.Mathlib.Omega.{arith}
 use mir.Syntax.{w32}
 use mir.Val.{SFits}
 use mir.ValLaws.{toZ-ofZ}
 use Rattle.longitudes.specs.Longitudes.{differenceOf}
-use Rattle.longitudes.proofs.Subtraction.{is-small}
 use Rattle.arms.specs.Degrees.{degreesOf}
 use Rattle.arms.proofs.ShortWay.{signed-way, way-fits}
 use borrow.Author.Needs.{needs}
@@ -22,18 +20,18 @@ add-true-seconds c = search needs
 true-seconds-requires-2 : tie.Need-true-seconds-requires-2
 true-seconds-requires-2 c κs = search needs
 
-difference-on-circle-requires : tie.Need-difference-on-circle-requires
-difference-on-circle-requires c κs = search needs
+forwards-to-requires : tie.Need-forwards-to-requires
+forwards-to-requires c κs = search needs
 
 signed-way-requires : tie.Need-signed-way-requires
-signed-way-requires c κs = is-small _ _ _ (c .difference-on-circle .ensures)
+signed-way-requires c κs = search needs
 
 degrees-requires : tie.Need-degrees-requires
 degrees-requires c κs = search needs
 
 returns : tie.Need-returns
 returns c =
-    let forwards = c .before .before .difference-on-circle .ensures ∙ ap₂ differenceOf (c .before .before .before .true-seconds2 .ensures .0) (c .before .before .before .before .true-seconds .ensures .0) in
+    let forwards = c .before .before .forwards-to .ensures .0 ∙ ap₂ differenceOf (c .before .before .before .true-seconds2 .ensures .0) (c .before .before .before .before .true-seconds .ensures .0) in
     let way = c .before .signed-way .ensures ∙ signed-way _ _ _ forwards in
     c .degrees .ensures ∙ ap degreesOf (toZ-ofZ w32 _ (subst (SFits w32) (sym way) (way-fits _ _)) ∙ way)
 
@@ -44,7 +42,7 @@ true-rate-on-spec =
     true-seconds-requires
     add-true-seconds
     true-seconds-requires-2
-    difference-on-circle-requires
+    forwards-to-requires
     signed-way-requires
     degrees-requires
     returns)
