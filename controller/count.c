@@ -57,6 +57,22 @@ void followed(uint32_t day)
     }
 }
 
+void true_placed(uint32_t day)
+{
+    for (uint32_t body = 0; body < BODIES; body++) {
+        sink = graha_true_place_order(day, body);
+        degrees = graha_true_place_angle(day, body);
+    }
+}
+
+void true_followed(uint32_t day)
+{
+    for (uint32_t body = 0; body < BODIES; body++) {
+        sink = graha_true_follow_order(day, body);
+        degrees = graha_true_follow_rate(day, body);
+    }
+}
+
 void carried_out(uint32_t day)
 {
     sink = day;

@@ -99,7 +99,7 @@ COUNTED = [
     ("docs/contracts.md", r"Each of the", r"calls has", CALLS),
     ("docs/DECISIONS.md", r"\(the", r"calls of `host`", CALLS),
     ("docs/DECISIONS.md", r"would be", r"checks of", 2 * CALLS),
-    ("docs/host.md", r"64-bit floats,", r"calls give an order", calls("graha_place_") + calls("graha_follow_")),
+    ("docs/host.md", r"64-bit floats,", r"calls give an order", calls("graha_place_") + calls("graha_follow_") + calls("graha_true_place_") + calls("graha_true_follow_")),
     ("README.md", r"matter of reading", r"examples", EXAMPLES),
     ("docs/README.md", r"torn page, with", r"examples", EXAMPLES),
     ("docs/find.md", r"`target/bin/find`\.", r"examples show", EXAMPLES),

@@ -1,6 +1,7 @@
-/* A small host program: it dates a day, prints its places, sets the nine arms of a planet table, drives nine for three
- * days, dates a Saka lunar date, looks for the Mondays with the Sun in the first degree, leafs through a year by lunar
- * month, and writes an almanac and reads it back. */
+/* A small host program: it dates a day, prints its places, sets the nine arms of a planet table, drives them over three
+ * days on which Mars turns back, and by the mean places over the last three, dates a Saka lunar date, looks for the
+ * Mondays with the Sun in the first degree, leafs through a year by lunar month, and writes an almanac and reads it
+ * back. */
 #include <stdio.h>
 #include <stdlib.h>
 #include <string.h>
@@ -17,6 +18,9 @@ _Static_assert(_Generic(&graha_search,
 
 /* The search: all days of the table, a Sun arc of one degree from 0, Mondays. */
 enum { FIRST = 0, LAST = 401599, SUN_START = 0, SUN_WIDTH = 3600, WEEKDAY = 0 };
+
+/* Mars, and a day on which it turns back. */
+enum { MARS = 4, STATION = 33830 };
 
 static const char *const WEEKDAYS[7] = {"Monday", "Tuesday", "Wednesday", "Thursday", "Friday", "Saturday", "Sunday"};
 
@@ -69,19 +73,34 @@ static arm carried_out(arm now, uint32_t order, double value)
     return after;
 }
 
-/* Drives nine arms for three days, one for each body at its mean place: each day an arm is told to go to its angle, and
- * then to run until the next day, or to hold. */
-static int drive_arms(uint32_t first)
+/* The calls that give orders: those for the true places and those for the mean ones have the same types. */
+typedef struct {
+    uint32_t (*place_result)(uint32_t day, uint32_t body);
+    uint32_t (*place_order)(uint32_t day, uint32_t body);
+    double (*place_angle)(uint32_t day, uint32_t body);
+    uint32_t (*follow_result)(uint32_t day, uint32_t body);
+    uint32_t (*follow_order)(uint32_t day, uint32_t body);
+    double (*follow_rate)(uint32_t day, uint32_t body);
+} orders;
+
+static const orders TRUE_PLACES = {graha_true_place_result,  graha_true_place_order,  graha_true_place_angle,
+                                   graha_true_follow_result, graha_true_follow_order, graha_true_follow_rate};
+static const orders MEAN_PLACES = {graha_place_result,  graha_place_order,  graha_place_angle,
+                                   graha_follow_result, graha_follow_order, graha_follow_rate};
+
+/* Drives nine arms for three days, one for each body: each day an arm is told to go to its angle, and then to run until
+ * the next day, or to hold. */
+static int drive_arms(const orders *given, uint32_t first)
 {
     for (uint32_t body = 0; body < 9; body++) {
         arm driven = {0.0, 0.0};
         printf("  arm of body %u:", (unsigned)body);
         for (uint32_t day = first; day < first + 3; day++) {
-            if (graha_place_result(day, body) != GRAHA_ACCEPTED || graha_follow_result(day, body) != GRAHA_ACCEPTED)
+            if (given->place_result(day, body) != GRAHA_ACCEPTED || given->follow_result(day, body) != GRAHA_ACCEPTED)
                 return 0;
-            uint32_t order = graha_follow_order(day, body);
-            driven = carried_out(driven, graha_place_order(day, body), graha_place_angle(day, body));
-            driven = carried_out(driven, order, graha_follow_rate(day, body));
+            uint32_t order = given->follow_order(day, body);
+            driven = carried_out(driven, given->place_order(day, body), given->place_angle(day, body));
+            driven = carried_out(driven, order, given->follow_rate(day, body));
             printf("%s at %.4f, ", day == first ? "" : ";", driven.angle);
             if (order == GRAHA_RUN)
                 printf("run at %+.4f", driven.rate);
@@ -183,8 +202,14 @@ int main(void)
     print_date(day);
     print_places(day);
     print_arms(day);
-    printf("the last three days:\n");
-    if (!drive_arms(LAST - 2)) {
+    printf("three days around Mars' station, at the true places:\n");
+    int driven = drive_arms(&TRUE_PLACES, STATION - 1);
+    if (graha_true_follow_rate(STATION - 1, MARS) >= 0 && graha_true_follow_rate(STATION, MARS) < 0) {
+        printf("Mars runs backwards from ");
+        print_date(STATION);
+    }
+    printf("the last three days, at the mean places:\n");
+    if (!driven || !drive_arms(&MEAN_PLACES, LAST - 2)) {
         fprintf(stderr, "host: an order is refused\n");
         return 1;
     }
