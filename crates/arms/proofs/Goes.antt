@@ -25,13 +25,16 @@ pub record Goes (e : Ends) (from to : ℕ) : Type 0 where
   pub off : ℕ
   pub is : to + e .lag + on * circle ≡ from + e .lead + more + off * circle
 
--- the same from n seconds back to n forwards
+abbrev pub ends : ℕ → ℕ → ℕ → Ends
+ends lag lead spread = record { lag = lag; lead = lead; spread = spread }
+
+-- from n seconds back to n forwards
 abbrev pub about : ℕ → Ends
-about n = record { lag = n; lead = 0; spread = n + n }
+about n = ends n 0 (n + n)
 
 -- not at all
 abbrev pub still : Ends
-still = record { lag = 0; lead = 0; spread = 0 }
+still = ends 0 0 0
 
 pub stays : (x : ℕ) → Goes still x x
 stays x = record { more = 0; few = omega arith; on = 0; off = 0; is = omega arith }
@@ -42,10 +45,10 @@ pub record Upto (back forth : ℕ) (e : Ends) : Type 0 where
   pub most : e .lead + e .spread ≤ e .lag + forth
 
 abbrev pub plus : Ends → Ends → Ends
-plus d e = record { lag = d .lag + e .lag; lead = d .lead + e .lead; spread = d .spread + e .spread }
+plus d e = ends (d .lag + e .lag) (d .lead + e .lead) (d .spread + e .spread)
 
 abbrev pub less : Ends → Ends → Ends
-less d e = record { lag = d .lag + e .lead + e .spread; lead = d .lead + e .lag; spread = d .spread + e .spread }
+less d e = ends (d .lag + e .lead + e .spread) (d .lead + e .lag) (d .spread + e .spread)
 
 module _ (d e : Ends) (a b x y : ℕ) (g : Goes d a b) (h : Goes e x y) where
   pub sum-goes : Goes (plus d e) ((a + x) % circle) ((b + y) % circle)
@@ -68,6 +71,10 @@ module _ (d e : Ends) (a b x y : ℕ) (g : Goes d a b) (h : Goes e x y) where
         off = g .off + h .on + (a + circle - x) / circle;
         is = omega (arith, g .is, h .is, h .few);
       })
+
+-- a way that is forwards, by its least
+pub forwards-goes : (e : Ends) (from to : ℕ) → e .lag ≤ e .lead → Goes e from to → Goes (ends 0 (e .lead - e .lag) (e .spread)) from to
+forwards-goes e from to h g = record { more = g .more; few = g .few; on = g .on; off = g .off; is = omega (arith, g .is) }
 
 -- the short way
 pub goes-way : (back forth : ℕ) (e : Ends) (from to : ℕ) → Goes e from to → Upto back forth e → back ≤ 648000 → forth < 648000 → Within back forth (shortWay from to)

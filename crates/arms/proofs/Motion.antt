@@ -18,12 +18,9 @@ use Rattle.longitudes.proofs.Subtraction.{difference-by}
 use Rattle.arms.specs.Degrees.{shortWay}
 use Rattle.arms.specs.Orders.{secondsOn}
 use Rattle.arms.proofs.Ranges.{Within}
-use Rattle.arms.proofs.Goes.{Ends, Goes, Upto, still, goes-way}
+use Rattle.arms.proofs.Goes.{Ends, Goes, Upto, ends, still, goes-way}
 
 -- the ends of a day's way, for each row of the table
-abbrev ends : ℕ → ℕ → ℕ → Ends
-ends lag lead spread = record { lag = lag; lead = lead; spread = spread }
-
 unfoldable pub meanEnds : List Ends
 meanEnds =
     ends 0 3541 8

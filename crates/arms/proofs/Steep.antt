@@ -3,7 +3,7 @@
 -- Assumes nothing.
 use mathlib.Core.Bool.{cond}
 use mathlib.Core.List.{[], _∷_}
-use mathlib.Core.Path.{_≡_, refl, sym, ap, _∙_}
+use mathlib.Core.Path.{_≡_, sym, ap, _∙_}
 use Prim.Native.Nat.{ℕ, zero, suc, _+_, _*_, _-_, _/_, _%_, _<_, _≤_, max}
 use native.Mathlib.Decide.{decLe, decLt}
 use native.Mathlib.Nat.{mul-comm, mul-le-mul-left, mul-le-mul-right, le-of-mul-le-mul-right, lt-div-mul-add, div-mul-le-self, div-lt-iff-lt-mul}
@@ -16,7 +16,7 @@ use Rattle.longitudes.specs.Longitudes.{circle}
 use Rattle.panchanga.specs.TrueLongitudes.{bhuja, bhujaProduct, equation}
 use Rattle.panchanga.proofs.Naturals.{first-half, second-half}
 use Rattle.panchanga.proofs.TrueSun.{product-most}
-use Rattle.planets.specs.Tables.{spacing, tenth, Entries, straightLine, largest}
+use Rattle.planets.specs.Tables.{spacing, Entries, straightLine, largest}
 use Rattle.planets.specs.Steps.{withinHalf}
 use Rattle.planets.proofs.Lines.{line-most, between}
 use Rattle.planets.proofs.Folds.{near, far}

@@ -23,7 +23,7 @@ use Rattle.planets.proofs.Answers.{outer-planet, inner-planet}
 use Rattle.arms.specs.Degrees.{shortWay}
 use Rattle.arms.specs.Orders.{secondsOn, trueSecondsOn}
 use Rattle.arms.proofs.Ranges.{Within}
-use Rattle.arms.proofs.Goes.{Ends, Goes, Upto, about, still, stays, plus, less, sum-goes, difference-goes, goes-way}
+use Rattle.arms.proofs.Goes.{Ends, Goes, Upto, ends, about, still, stays, plus, less, sum-goes, difference-goes, forwards-goes, goes-way}
 use Rattle.arms.proofs.Motion.{meanEnds, meanEndsOf, day-goes, day-way}
 use Rattle.arms.proofs.Correction.{sent, sent-signed, half-most, Sized, correction-goes}
 use Rattle.arms.proofs.Steep.{steepness, exactLine, sighra-even, manda-even, folded, bhuja-folded, line-small, sighra-sized, half-sized, manda-sized, Q-even, equationAt, equation-folded, equation-sized}
@@ -161,22 +161,27 @@ module _ (n : ℕ) (h : n < lastDay) where
   small : (m b : ℕ) → secondsOn m b < circle
   small m b = longitude-small b (pairAt m)
 
-  -- the Sun's apogee is fixed
-  pub sun-way : Within 0 3763 (shortWay (trueSecondsOn n 0) (trueSecondsOn (n + 1) 0))
+  -- THE SUN, whose apogee is fixed: 3,327 to 3,763 seconds forwards
+  pub sun-goes : Goes (ends 0 3327 436) (trueSecondsOn n 0) (trueSecondsOn (n + 1) 0)
   unfolding trueSunAt meanEnds
-  sun-way =
+  sun-goes =
       rw (sun-is n, sun-is (n + 1))
-      (goes-way 0 3763 (plus (meanEndsOf 0) (about 214)) _ _
-      (equated-goes 32400 433550880000 7845 3549 214 (meanEndsOf 0) still (omega arith) 280800 280800 (secondsOn n 0) (secondsOn (n + 1) 0) (small n 0) (small (n + 1) 0) (stays 280800) (day-goes n 0 h (omega arith)))
-      (omega arith) (omega arith) (omega arith))
+      (forwards-goes (plus (meanEndsOf 0) (about 214)) _ _ (omega arith)
+      (equated-goes 32400 433550880000 7845 3549 214 (meanEndsOf 0) still (omega arith) 280800 280800 (secondsOn n 0) (secondsOn (n + 1) 0) (small n 0) (small (n + 1) 0) (stays 280800) (day-goes n 0 h (omega arith))))
+
+  pub sun-way : Within 0 3763 (shortWay (trueSecondsOn n 0) (trueSecondsOn (n + 1) 0))
+  sun-way = goes-way 0 3763 (ends 0 3327 436) _ _ sun-goes (omega arith) (omega arith) (omega arith)
+
+  -- THE MOON: 40,856 to 54,022 seconds forwards
+  pub moon-goes : Goes (ends 0 40856 13166) (trueSecondsOn n 1) (trueSecondsOn (n + 1) 1)
+  unfolding trueMoonAt trueMoon meanEnds
+  moon-goes =
+      rw (moon-is n, moon-is (n + 1))
+      (forwards-goes (plus (meanEndsOf 1) (about 6578)) _ _ (omega arith)
+      (equated-goes 72000 417571200000 18100 47044 6578 (meanEndsOf 1) (meanEndsOf 2) (omega arith) (secondsOn n 2) (secondsOn (n + 1) 2) (secondsOn n 1) (secondsOn (n + 1) 1) (small n 1) (small (n + 1) 1) (day-goes n 2 h (omega arith)) (day-goes n 1 h (omega arith))))
 
   pub moon-way : Within 0 54022 (shortWay (trueSecondsOn n 1) (trueSecondsOn (n + 1) 1))
-  unfolding trueMoonAt trueMoon meanEnds
-  moon-way =
-      rw (moon-is n, moon-is (n + 1))
-      (goes-way 0 54022 (plus (meanEndsOf 1) (about 6578)) _ _
-      (equated-goes 72000 417571200000 18100 47044 6578 (meanEndsOf 1) (meanEndsOf 2) (omega arith) (secondsOn n 2) (secondsOn (n + 1) 2) (secondsOn n 1) (secondsOn (n + 1) 1) (small n 1) (small (n + 1) 1) (day-goes n 2 h (omega arith)) (day-goes n 1 h (omega arith)))
-      (omega arith) (omega arith) (omega arith))
+  moon-way = goes-way 0 54022 (ends 0 40856 13166) _ _ moon-goes (omega arith) (omega arith) (omega arith)
 
   -- the Moon's apogee and node
   mean-way : (b : ℕ) → 2 ≤ b → b < 4 → Within 191 47444 (shortWay (trueSecondsOn n b) (trueSecondsOn (n + 1) b))

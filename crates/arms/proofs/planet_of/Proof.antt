@@ -1,6 +1,4 @@
 -- `planet_of` meets its contract: each case is the planet four behind it. Assumes nothing.
-use mathlib.Core.Path.{_≡_}
-use Prim.Native.Nat.{_≤_}
 use native.Mathlib.Nat.{le-antisymm}
 use native.Mathlib.Omega.{arith}
 use Rattle.arms.proofs.Parts.{above}

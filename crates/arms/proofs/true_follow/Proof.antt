@@ -1,7 +1,7 @@
 -- `true_follow` meets its contract: held where it is refused and on the last day, else it runs at the rate; the laws
 -- are of any longitude, and the range is how far a true body goes in a day. Assumes nothing.
 use borrow.Author.Needs.{needs}
-use mathlib.Core.Path.{_≡_, sym, _∙_}
+use mathlib.Core.Path.{sym, _∙_}
 use Prim.Native.Nat.{_<_, _≤_}
 use native.Mathlib.Omega.{arith}
 use Rattle.days.specs.Days.{lastDay}
