@@ -90,6 +90,16 @@ void sign_all(uint32_t day)
     sink = graha_sign_entries(0, DAYS - 1, list, sizeof list) + day;
 }
 
+void true_sign_year(uint32_t day)
+{
+    sink = graha_true_sign_entries(day, day + 364, list, 4 * 13);
+}
+
+void true_sign_all(uint32_t day)
+{
+    sink = graha_true_sign_entries(0, DAYS - 1, list, sizeof list) + day;
+}
+
 void sparse_fits(uint32_t day)
 {
     sink = graha_search(0, DAYS - 1, 0, 3600, 0, list, 4 * 159) + day;

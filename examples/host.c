@@ -255,6 +255,16 @@ int main(void)
     }
     if (result != GRAHA_ACCEPTED) return 1;
 
+    /* The same by the true Sun, as a calendar prints them. */
+    result = graha_true_sign_entries(day, day + 365, entries, sizeof entries);
+    length = graha_true_sign_entries_length(day, day + 365);
+    printf("and the true Sun on %u: result %u; the first and the last:\n", (unsigned)length, (unsigned)result);
+    if (result == GRAHA_ACCEPTED && length > 0) {
+        print_date(day_at(entries, 0));
+        print_date(day_at(entries, length - 1));
+    }
+    if (result != GRAHA_ACCEPTED) return 1;
+
     printf("the lunar months of the year:\n");
     if (leaf(day) != GRAHA_ACCEPTED) return 1;
     return exchange_almanac(day) ? 0 : 1;

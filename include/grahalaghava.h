@@ -168,6 +168,10 @@ uint32_t graha_search_looked(uint32_t first, uint32_t last, uint32_t sun_start, 
 uint32_t graha_sign_entries(uint32_t first, uint32_t last, uint8_t *list, uint64_t list_len);
 /* How many these days are, however long a list: for results 0 and 7, else 0. */
 uint32_t graha_sign_entries_length(uint32_t first, uint32_t last);
+/* The same by the true Sun, by which calendars are printed.
+ * A list of (last - first + 1) / 29 + 1 entries always does. */
+uint32_t graha_true_sign_entries(uint32_t first, uint32_t last, uint8_t *list, uint64_t list_len);
+uint32_t graha_true_sign_entries_length(uint32_t first, uint32_t last);
 
 /* Leafing by lunar month. A month turns on a day whose tithi at sunrise is smaller than the day before's; day 0 is not
  * counted. The host keeps a row of the turns: their number, the number of days covered (from day 0 on; a new row has 0

@@ -1,4 +1,5 @@
-// The printers' program: reads a span and prints the days on which the mean Sun enters a sign.
+// The printers' program: reads a span and prints the days on which the Sun enters a sign, the mean Sun or, with the
+// word `true` behind the span, the true one.
 use output::Written;
 use text::PIECE;
 ghost use Rattle.output.specs.Output.{AllWritten};
@@ -17,14 +18,16 @@ fn print_signs(input: &[u8]) -> Written
     ensures { λ r. ⌜ AllWritten (signLinesFor (now (input .entry))) r ⌝ }
 {
     let mut list = [0u8; sign_sheet::LIST];
-    let listing = sign_sheet::list_entries(input, &mut list);
+    let listed = sign_sheet::list_entries(input, &mut list);
+    let sun = listed.sun;
+    let listing = listed.listing;
     let lines = sign_sheet::line_count(listing);
     let mut buffer = [0u8; PIECE];
     let mut from: usize = 0;
     let mut bytes: usize = 0;
     let mut index: usize = 0;
     while index < lines {
-        let line = sign_sheet::line(listing, &list, index);
+        let line = sign_sheet::line(sun, listing, &list, index);
         let len = line.len;
         if PIECE - bytes < len {
             if !print_between(input, from, index, &buffer[..bytes]) {

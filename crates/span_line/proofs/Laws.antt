@@ -105,10 +105,10 @@ unfolding spanRead isOneLine
 other-lines text h = rw (ne-eqb _ _ h)
 
 -- ---- a span that is accepted
-abbrev Sound : Span → Type 0
+abbrev pub Sound : Span → Type 0
 Sound s = s .refusal ≡ 0 → Ordered (s .first) (s .last)
 
-days-sound : (a b : NumberAnswer) → Sound (bothDays a b)
+pub days-sound : (a b : NumberAnswer) → Sound (bothDays a b)
 unfolding bothDays
 days-sound a b = go (eqb (firstRefusal (a .refusal) (b .refusal)) 0) (eqb (spanRefusal (a .number) (b .number)) 0) refl refl
   where
@@ -121,7 +121,7 @@ days-sound a b = go (eqb (firstRefusal (a .refusal) (b .refusal)) 0) (eqb (spanR
     go true false e f z = absurd (eqb-false _ _ f z)
     go false u e f z = absurd (eqb-false _ _ e z)
 
-line-sound : (l : List ℕ) → Sound (spanLine l)
+pub line-sound : (l : List ℕ) → Sound (spanLine l)
 line-sound l = go (eqb (length (firstWord (afterWord (afterWord (upTo hash l))))) 0) refl
   where
     go : (t : Bool) → eqb (length (firstWord (afterWord (afterWord (upTo hash l))))) 0 ≡ t → Sound (spanLine l)

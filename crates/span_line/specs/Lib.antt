@@ -1,1 +1,2 @@
 pub mod SpanLine
+pub mod Marked

@@ -1,3 +1,4 @@
+pub mod Suns
 pub mod Passed
 pub mod Entering
 pub mod Answers

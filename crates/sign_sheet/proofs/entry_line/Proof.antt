@@ -8,8 +8,8 @@ use Rattle.sign_sheet.proofs.entry_line.Tie as tie
 from-number-requires : tie.Need-from-number-requires
 from-number-requires c κs = search needs
 
-sign-of-requires : tie.Need-sign-of-requires
-sign-of-requires c κs = search needs
+sign-by-requires : tie.Need-sign-by-requires
+sign-by-requires c κs = search needs
 
 empty-requires : tie.Need-empty-requires
 empty-requires c κs = search needs
@@ -30,16 +30,16 @@ returns : tie.Need-returns
 returns c =
     let put = c .before .before .before in
     let found = put .before .before in
-    holds _ _ (sign-line-fits _ (found .before .before .pre))
+    holds _ _ (sign-line-fits _ _ (found .before .before .pre))
     (rw (c .byte .ensures, c .before .numbers .ensures, put .put-named-day .ensures, put .before .empty .ensures)
-    (sign-line-made _ _ _ _ (found .before .before .pre) (found .before .from-number .ensures) (found .sign-of .ensures)))
+    (sign-line-made _ _ _ _ _ (found .before .before .pre) (found .before .from-number .ensures) (found .sign-by .ensures)))
 
 pub entry-line-spec : {M : Type 1} → statement M
 entry-line-spec =
     tie.close
     (tie.spec
     from-number-requires
-    sign-of-requires
+    sign-by-requires
     empty-requires
     put-named-day-requires
     slice-aggregate-numbers

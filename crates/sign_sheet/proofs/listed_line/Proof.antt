@@ -14,19 +14,19 @@ empty-requires : tie.Need-empty-requires
 empty-requires c κs = search needs
 
 returns : tie.Need-returns
-returns c = meant (ap listedLine (sym (c .before .before .before .entry-at .ensures)) ∙ none-due _ (c .before .if1 .taken)) (nothing-held _ (c .empty .ensures))
+returns c = meant (ap (listedLine _) (sym (c .before .before .before .entry-at .ensures)) ∙ none-due _ _ (c .before .if1 .taken)) (nothing-held _ (c .empty .ensures))
 
 empty-requires-2 : tie.Need-empty-requires-2
 empty-requires-2 c κs = search needs
 
 returns-2 : tie.Need-returns-2
-returns-2 c = meant (ap listedLine (sym (c .before .before .before .before .before .entry-at .ensures)) ∙ no-day-due _ (c .before .before .before .if1 .left) (c .before .if2 .taken)) (nothing-held _ (c .empty2 .ensures))
+returns-2 c = meant (ap (listedLine _) (sym (c .before .before .before .before .before .entry-at .ensures)) ∙ no-day-due _ _ (c .before .before .before .if1 .left) (c .before .if2 .taken)) (nothing-held _ (c .empty2 .ensures))
 
 entry-line-requires : tie.Need-entry-line-requires
 entry-line-requires c κs = search needs
 
 returns-3 : tie.Need-returns-3
-returns-3 c = meant (ap listedLine (sym (c .before .before .before .before .before .entry-at .ensures)) ∙ day-due _ (c .before .before .before .if1 .left) (c .before .if2 .left)) (c .entry-line .ensures)
+returns-3 c = meant (ap (listedLine _) (sym (c .before .before .before .before .before .entry-at .ensures)) ∙ day-due _ _ (c .before .before .before .if1 .left) (c .before .if2 .left)) (c .entry-line .ensures)
 
 pub listed-line-spec : {M : Type 1} → statement M
 listed-line-spec =

@@ -17,11 +17,11 @@ use Rattle.signs.proofs.print_signs.Statement.{statement}
 use Rattle.signs.proofs.print_signs.Tie as tie
 
 abbrev Inv-loop : tie.InvT-loop
-Inv-loop input list listing lines buffer₀ from₀ bytes₀ index₀ buffer from bytes index =
+Inv-loop input list sun listing lines buffer₀ from₀ bytes₀ index₀ buffer from bytes index =
     (lines ≡ length (signLinesFor input)) × Waiting (signLinesFor input) 8192 buffer from bytes index
 
 abbrev μ-loop : tie.MeasureT-loop
-μ-loop input list listing lines buffer₀ from₀ bytes₀ index₀ buffer from bytes index = lines - index
+μ-loop input list sun listing lines buffer₀ from₀ bytes₀ index₀ buffer from bytes index = lines - index
 
 list-entries-requires : tie.Need-list-entries-requires Inv-loop μ-loop
 list-entries-requires c κs = search needs
@@ -31,8 +31,8 @@ line-count-requires c κs = search needs
 
 loop-holds : tie.Need-loop-holds Inv-loop μ-loop
 loop-holds c =
-    let listed = c .before .list-entries .ensures .1 .1 in
-    (c .line-count .ensures _ ∙ ap length listed, waiting-none _ _ _ 0 (search needs) (omega arith))
+    let listed = c .before .before .list-entries .ensures .1 .1 in
+    (c .line-count .ensures _ _ ∙ ap length listed, waiting-none _ _ _ 0 (search needs) (omega arith))
 
 line-requires : tie.Need-line-requires Inv-loop μ-loop
 line-requires c κs = search needs
@@ -55,7 +55,7 @@ returns c = λ e. absurd (false≢true e)
 -- the line has room in the buffer: it had, or those that waited were printed
 with-room :
     (c : tie.Joined1 Inv-loop μ-loop) →
-    (Waiting (signLinesFor (c .before .before .before .before .before .before .before .before .before .args .input .now)) 8192 (c .before .before .before .before .loop .buffer) (c .if1 .from) (c .if1 .bytes) (c .before .before .before .before .loop .index))
+    (Waiting (signLinesFor (c .before .before .before .before .before .before .before .before .before .before .args .input .now)) 8192 (c .before .before .before .before .loop .buffer) (c .if1 .from) (c .if1 .bytes) (c .before .before .before .before .loop .index))
     × (c .if1 .bytes + c .before .line .result .len ≤ 8192)
 with-room c =
     let inv = c .before .before .before .before .loop .inv .1 in
@@ -85,7 +85,7 @@ loop-again c =
     let joined = c .before .before .before .before in
     let head = joined .before .before .before .before in
     let room = with-room joined in
-    let listed = head .before .before .list-entries .ensures .1 .1 in (
+    let listed = head .before .before .before .list-entries .ensures .1 .1 in (
       head .loop .inv .0,
       waiting-line _ _ _ _ _ _ _ _ (room .0) (omega (arith, head .loop .inv .0)) (rw listed at (joined .before .line .ensures)) (room .1) (c .before .before .put .ensures .1),
     )

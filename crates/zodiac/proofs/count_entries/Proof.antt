@@ -16,12 +16,13 @@ signs-passed-requires-2 c κs = search needs
 
 sub-result : tie.Need-sub-result
 sub-result c =
+    let sun = c .before .before .args .sun in
     let first = c .before .before .args .first in
     let last = c .before .before .args .last in
-    omega (arith, c .before .signs-passed .ensures, c .signs-passed2 .ensures, passed-mono first (last - first), passed-at {m = first + (last - first)} {n = last} (omega (arith, c .before .before .pre .0)))
+    omega (arith, c .before .signs-passed .ensures, c .signs-passed2 .ensures, passed-mono sun first (last - first), passed-at sun {m = first + (last - first)} {n = last} (omega (arith, c .before .before .pre .0)))
 
 returns : tie.Need-returns
-returns c = rw (c .before .signs-passed .ensures, c .signs-passed2 .ensures) (sym (entries-count _ _ (c .before .before .pre .0)))
+returns c = rw (c .before .signs-passed .ensures, c .signs-passed2 .ensures) (sym (entries-count _ _ _ (c .before .before .pre .0)))
 
 pub count-entries-spec : {M : Type 1} → statement M
 count-entries-spec =

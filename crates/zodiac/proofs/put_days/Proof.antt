@@ -6,13 +6,13 @@ use Rattle.zodiac.proofs.put_days.Statement.{statement}
 use Rattle.zodiac.proofs.put_days.Tie as tie
 
 abbrev Inv-loop : tie.InvT-loop
-Inv-loop signs count list₀ index₀ list index = Filling signs count list₀ list index
+Inv-loop sun signs count list₀ index₀ list index = Filling sun signs count list₀ list index
 
 abbrev μ-loop : tie.MeasureT-loop
-μ-loop signs count list₀ index₀ list index = count - index
+μ-loop sun signs count list₀ index₀ list index = count - index
 
 loop-holds : tie.Need-loop-holds Inv-loop μ-loop
-loop-holds c = filling-start _ _ _
+loop-holds c = filling-start _ _ _ _
 
 add-day-passing : tie.Need-add-day-passing Inv-loop μ-loop
 add-day-passing c = search needs
@@ -33,13 +33,13 @@ loop-less : tie.Need-loop-less Inv-loop μ-loop
 loop-less c = search needs
 
 loop-again : tie.Need-loop-again Inv-loop μ-loop
-loop-again c = filling-next _ _ _ _ _ (c .before .before .before .before .before .before .loop .inv) _ _ (c .before .before .before .before .before .loop-test .taken) (c .before .before .before .before .day-passing .ensures) (c .before .before .put-entry .ensures)
+loop-again c = filling-next _ _ _ _ _ _ (c .before .before .before .before .before .before .loop .inv) _ _ (c .before .before .before .before .before .loop-test .taken) (c .before .before .before .before .day-passing .ensures) (c .before .before .put-entry .ensures)
 
 same-length : tie.Need-same-length Inv-loop μ-loop
 same-length c = c .before .loop .inv .size
 
 returns : tie.Need-returns Inv-loop μ-loop
-returns c = filling-end _ _ _ _ _ (c .before .loop .inv) (c .loop-test .left)
+returns c = filling-end _ _ _ _ _ _ (c .before .loop .inv) (c .loop-test .left)
 
 pub put-days-spec : {M : Type 1} → statement M
 put-days-spec =

@@ -1,24 +1,13 @@
--- `sign_of` meets its contract: refused as the longitude is, else the sign in which it is.
+-- `sign_of` meets its contract: the sign by the mean Sun.
 use borrow.Author.Needs.{needs}
-use mathlib.Core.Path.{_∙_}
-use Rattle.zodiac.proofs.Answers.{sign-refused, sign-given}
 use Rattle.zodiac.proofs.sign_of.Statement.{statement}
 use Rattle.zodiac.proofs.sign_of.Tie as tie
 
-mean-longitude-requires : tie.Need-mean-longitude-requires
-mean-longitude-requires c κs = search needs
-
-refused-requires : tie.Need-refused-requires
-refused-requires c κs = search needs
+sign-by-requires : tie.Need-sign-by-requires
+sign-by-requires c κs = search needs
 
 returns : tie.Need-returns
-returns c = c .refused .ensures ∙ sign-refused _ _ (c .before .before .before .mean-longitude .ensures) (c .before .if1 .taken)
-
-accepted-requires : tie.Need-accepted-requires
-accepted-requires c κs = search needs
-
-returns-2 : tie.Need-returns-2
-returns-2 c = c .accepted .ensures ∙ sign-given _ _ (c .before .before .before .before .mean-longitude .ensures) (c .before .before .if1 .left)
+returns c = c .sign-by .ensures
 
 pub sign-of-spec : {M : Type 1} → statement M
-sign-of-spec = tie.close (tie.spec mean-longitude-requires refused-requires returns accepted-requires returns-2)
+sign-of-spec = tie.close (tie.spec sign-by-requires returns)
