@@ -1,7 +1,7 @@
 -- The lines of a sheet of signs by refusal and index, how many there are, and that each fits: a day has few bytes, and
 -- a sign has two digits. Assumes nothing.
 use mathlib.Core.List.{List, [], _∷_, _++_, append-assoc}
-use mathlib.Core.Path.{_≡_, refl, sym, ap, _∙_}
+use mathlib.Core.Path.{_≡_, refl, ap, _∙_}
 use Prim.Native.Nat.{ℕ, zero, suc, _+_, _-_, _≤_, _<_}
 use native.Mathlib.Omega.{arith}
 use lib.ListN.{length, length-append}

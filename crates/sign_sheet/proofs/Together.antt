@@ -1,5 +1,6 @@
 -- The lines of a listing are those that are printed for its input: the heading and then the line of each entry, by the
 -- entries that are read back from the list, which has room for those of every span. Assumes nothing.
+use mathlib.Core.Bool.{false}
 use mathlib.Core.List.{List, [], _∷_, map}
 use mathlib.Core.Path.{_≡_, refl, sym, ap, ap₂, _∙_}
 use Prim.Native.Nat.{ℕ, suc, _+_, _≤_, _<_}
@@ -11,13 +12,15 @@ use Rattle.days.proofs.Laws.{Span as Ordered, accepts-span}
 use Rattle.entries.specs.Entries.{capacity, entryAt, withEntries}
 use Rattle.entries.proofs.Lists.{has-at}
 use Rattle.span_line.specs.declared.Span.{Span}
-use Rattle.span_line.proofs.Marks.{accepted-marked}
+use Rattle.span_line.specs.SpanLine.{spanInput}
+use Rattle.span_line.proofs.Marks.{as-before, accepted-marked}
 use Rattle.zodiac.specs.declared.Listing.{Listing}
 use Rattle.zodiac.specs.declared.Sun.{Sun}
+use Rattle.zodiac.specs.declared.Sun.the-variants.{Mean}
 use Rattle.zodiac.specs.Zodiac.{signEntries, listingOf, entriesAfter}
 use Rattle.zodiac.proofs.Answers.{all-written}
 use Rattle.zodiac.proofs.Laws.{entered-only, entries-most, entered-read}
-use Rattle.sign_sheet.specs.SignSheets.{signHeading, signLine, signLines, asked, sunAsked, signLinesFor, noListing, listedLine, entryLines, mostEntries, listingLines}
+use Rattle.sign_sheet.specs.SignSheets.{signHeading, signLine, signLines, asked, sunMeant, sunAsked, signLinesFor, noListing, listedLine, entryLines, mostEntries, listingLines}
 use Rattle.sign_sheet.proofs.Lines.{accepted-lines, day-due}
 
 -- the lines from entry k on, where each is the line of the day at its place
@@ -69,3 +72,8 @@ module _ (sun : Sun) (s : Span) (input list : List ℕ) (es : sun ≡ sunAsked i
   listed-together r room found after ef ea =
       let ordered = accepted-marked _ input (ap (λ (a : Span). a .refusal) (sym e) ∙ r) in
       rw (ef, ea, ← es, ← e, eq-eqb (s .refusal) 0 r) (all-entered sun (s .first) (s .last) (rw (← e) at ordered) list room)
+
+-- THE LAW: without the word `true` the lines are those of the mean Sun, for the span that the line means elsewhere
+pub without-true : (input : List ℕ) → asked input .marked ≡ false → signLinesFor input ≡ signLines Mean (spanInput input)
+unfolding sunMeant
+without-true input e = ap₂ signLines (ap sunMeant e) (as-before _ input e)

@@ -52,7 +52,8 @@ below P (suc n) all i h = go (decLe n i) (below P n (all .1) i)
     go (yes l) rest = let last : i ≡ n = omega arith in rw last (all .0)
     go (no l) rest = rest (omega arith)
 
--- ---- where k signs are passed: the true Sun stands there at their end, and a second before it does not
+-- ---- where k signs are passed: the true Sun stands there at their end, and a second before it does not; and the mean
+-- Sun is past the largest equation, so that circles add nothing
 record Entry (k : ℕ) : Type 0 where
   pub here : 108000 * k ≤ shown (entryAtSeconds True k)
   pub not-before : shown (entryAtSeconds True k - 1) < 108000 * k

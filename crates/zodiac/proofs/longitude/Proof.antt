@@ -1,6 +1,5 @@
 -- `longitude` meets its contract: by the Sun that is meant.
 use borrow.Author.Needs.{needs}
-use Rattle.zodiac.specs.Zodiac.{sunAt}
 use Rattle.zodiac.proofs.Answers.{mean-sun, true-sun}
 use Rattle.zodiac.proofs.longitude.Statement.{statement}
 use Rattle.zodiac.proofs.longitude.Tie as tie
