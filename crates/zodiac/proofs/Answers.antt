@@ -1,16 +1,16 @@
 -- What is answered, case by case: the sign of a day; of a span refused, too many entries, all written.
 -- Assumes nothing.
 use mathlib.Core.Path.{_≡_, refl, sym, ap, ap₂, _∙_}
-use mathlib.Core.Bool.{Bool, true, false, cond}
+use mathlib.Core.Bool.{Bool, true, false, cond, _&&_}
 use mathlib.Core.List.{List}
 use Prim.Native.Nat.{ℕ, _+_, _/_, _≤_, _<_}
 use native.Mathlib.Omega.{arith}
-use lib.Dec.{leb}
+use lib.Dec.{leb, eqb}
 use lib.ListN.{length}
 use borrow.Author.Tests.{le-leb, lt-leb, eq-eqb, ne-eqb}
 use Rattle.days.specs.declared.Day.{Day}
 use Rattle.days.specs.declared.NumberAnswer.{NumberAnswer}
-use Rattle.days.specs.Days.{theNumber, noNumber, inRange, onDay, spanRefusal}
+use Rattle.days.specs.Days.{lastDay, theNumber, noNumber, inRange, onDay, spanRefusal}
 use Rattle.days.proofs.Laws.{given, refused, span-accepted, span-refused, span-given}
 use Rattle.entries.specs.Entries.{capacity, withEntries, withEntriesFrom}
 use Rattle.entries.proofs.Putting.{put-all}
@@ -66,6 +66,40 @@ module _ (sun : Sun) (first last : ℕ) where
   pub length-given : spanRefusal first last ≡ 0 → lengthNeeded sun first last ≡ theNumber (length (signEntries sun first last))
   unfolding lengthNeeded
   length-given e = rw (eq-eqb (spanRefusal first last) 0 e)
+
+  -- the number, by a listing for a list of any length: 7 says that the span is not refused
+  module _ (room : ℕ) (found : Listing) (e : found ≡ listingOf sun first last room) where
+    pub too-short-told : found .refusal ≡ 7 → theNumber (found .length) ≡ lengthNeeded sun first last
+    unfolding listingOf entriesResult lengthNeeded spanRefusal
+    too-short-told s =
+        ap (λ (f : Listing). theNumber (f .length)) e
+        ∙ go (leb first lastDay && leb last lastDay) (leb first last) (leb (length (signEntries sun first last)) room) (ap (λ (f : Listing). f .refusal) (sym e) ∙ s)
+      where
+        needed : ℕ → NumberAnswer
+        needed r = cond (eqb r 0) (theNumber (length (signEntries sun first last))) (noNumber r)
+
+        go : (a o f : Bool) → _≡_ {A = ℕ} (cond a (cond o (cond f 0 7) 5) 2) 7 → theNumber (needed (cond a (cond o 0 5) 2) .number) ≡ needed (cond a (cond o 0 5) 2)
+        go true true f s = refl
+        go true false f s = absurd (omega arith)
+        go false o f s = absurd (omega arith)
+
+    pub otherwise-told : (found .refusal ≡ 7 → ⊥) → record { refusal = found .refusal; number = found .length } ≡ lengthNeeded sun first last
+    unfolding listingOf entriesResult lengthNeeded spanRefusal
+    otherwise-told s =
+        ap (λ (f : Listing). number-of (f .refusal) (f .length)) e
+        ∙ go (leb first lastDay && leb last lastDay) (leb first last) (leb (length (signEntries sun first last)) room) (λ z. s (ap (λ (f : Listing). f .refusal) e ∙ z))
+      where
+        needed : ℕ → NumberAnswer
+        needed r = cond (eqb r 0) (theNumber (length (signEntries sun first last))) (noNumber r)
+
+        number-of : ℕ → ℕ → NumberAnswer
+        number-of r n = record { refusal = r; number = n }
+
+        go : (a o f : Bool) → (_≡_ {A = ℕ} (cond a (cond o (cond f 0 7) 5) 2) 7 → ⊥) → number-of (cond a (cond o (cond f 0 7) 5) 2) (needed (cond a (cond o 0 5) 2) .number) ≡ needed (cond a (cond o 0 5) 2)
+        go true true true s = refl
+        go true true false s = absurd (s refl)
+        go true false f s = refl
+        go false o f s = refl
 
   module _ (l : List ℕ) where
     -- what is handed back, and the list after it

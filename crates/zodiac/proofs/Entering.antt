@@ -13,7 +13,7 @@ use Rattle.entries.specs.Runs.{filtered}
 use Rattle.entries.proofs.Filter.{filtered-at, filtered-front, filtered-in, filtered-none}
 use Rattle.zodiac.specs.declared.Sun.{Sun}
 use Rattle.zodiac.specs.Zodiac.{entersOn, signEntries}
-use Rattle.zodiac.specs.Passed.{signsPassed, dayPassing, daysPassing}
+use Rattle.zodiac.specs.Passed.{signsPassed, dayPassing, daysBy, daysPassing}
 use Rattle.zodiac.proofs.Passed.{Passes, passed-at, passed-mono, passed-first, stays, enters, day-passing, not-sooner, passed-then}
 
 module _ (sun : Sun) where
@@ -71,7 +71,7 @@ module _ (sun : Sun) where
         ∙ ap (λ (t : List ℕ). d ∷ t) (filtered-at (entersOn sun) (suc d) (last - d) (d + 1) (last - d) (omega arith) refl)
 
   entering : (m a last : ℕ) → a ≤ last → signsPassed sun a + m ≡ signsPassed sun last → filtered (entersOn sun) (daysFrom (a + 1) (last - a)) ≡ daysPassing sun (signsPassed sun a + 1) m
-  unfolding daysPassing
+  unfolding daysBy
   entering zero a last h e = filtered-none (entersOn sun) (a + 1) (last - a) (λ i l. none-enters a last i (omega arith) (omega arith))
   entering (suc m) a last h e =
       let p = day-passing sun (signsPassed sun a + 1) (omega (arith, passed-first sun a)) in
@@ -87,12 +87,12 @@ module _ (sun : Sun) where
       (omega (arith, passed-mono sun first (last - first), passed-at sun {m = first + (last - first)} {n = last} (omega arith)))
 
   pub passing-length : (k m : ℕ) → length (daysPassing sun k m) ≡ m
-  unfolding daysPassing
+  unfolding daysBy
   passing-length k zero = refl
   passing-length k (suc m) = ap suc (passing-length (suc k) m)
 
   pub passing-at : (k m i : ℕ) → i < m → getD (daysPassing sun k m) i 0 ≡ dayPassing sun (k + i)
-  unfolding daysPassing
+  unfolding daysBy
   passing-at k zero i h = absurd (omega arith)
   passing-at k (suc m) zero h = ap (dayPassing sun) (omega arith)
   passing-at k (suc m) (suc i) h = passing-at (suc k) m i (omega arith) ∙ ap (dayPassing sun) (omega arith)

@@ -11,7 +11,7 @@ use Rattle.longitudes.proofs.Sun.{unrolled, unrolled-at, mono, day-most, days-m
 use Rattle.zodiac.specs.declared.Sun.{Sun}
 use Rattle.zodiac.specs.declared.Sun.the-variants.{Mean, True}
 use Rattle.zodiac.specs.Zodiac.{signOn, entersOn}
-use Rattle.zodiac.specs.Passed.{delayOf, entryAtSeconds, signsPassed, dayPassing}
+use Rattle.zodiac.specs.Passed.{delayOf, entryAtSeconds, passedBy, signsPassed, dayBy, dayPassing}
 use Rattle.zodiac.proofs.Suns.{shownBy, shown-by-mono, shown-by-sign, unrolled-least, reached, unreached, leastSign, delay-small, sign-long, next-entry}
 
 -- u seconds of the mean Sun are from where k signs are passed to before the next one is
@@ -40,7 +40,7 @@ pub record Passes (sun : Sun) (k d : ℕ) : Type 0 where
 
 module _ (sun : Sun) where
   pub within : (n : ℕ) → Within sun (signsPassed sun n) (unrolled n)
-  unfolding signsPassed unrolled
+  unfolding passedBy unrolled
   within n = go (ltb ((unrolled n + 7728) % 108000) (delayOf sun ((unrolled n + 7728) / 108000))) refl
     where
       go : (b : Bool) → ltb ((unrolled n + 7728) % 108000) (delayOf sun ((unrolled n + 7728) / 108000)) ≡ b → Within sun (signsPassed sun n) (unrolled n)
@@ -157,7 +157,7 @@ module _ (C A x : ℕ) (up : 124186 * A ≤ 35 * x + 124185) (down : 35 * x ≤ 
       go (no e) = within-before (omega arith)
 
 pub day-passing : (sun : Sun) (k : ℕ) → 12 ≤ k → Passes sun k (dayPassing sun k)
-unfolding dayPassing
+unfolding dayBy
 day-passing sun k h = passing (secondsOf / 14249449) (secondsOf % 14249449) ((35 * (secondsOf % 14249449) + 124185) / 124186) (omega arith) (omega arith) (omega arith) (omega arith)
   where
     secondsOf : ℕ

@@ -60,12 +60,11 @@ record Entry (k : ℕ) : Type 0 where
   pub late : 7846 ≤ entryAtSeconds True k
 
 twelve : AllBelow (λ (i : ℕ). Entry (i + 1)) 12
-unfolding shown delayOf delays equation bhuja differenceOf reduced AllBelow
+unfolding shown delays equation bhuja differenceOf reduced AllBelow
 twelve = omega arith
 
 -- twelve signs more are a circle more
 entry-circle : (k : ℕ) → 1 ≤ k → entryAtSeconds True (k + 12) ≡ entryAtSeconds True k + circle
-unfolding delayOf
 entry-circle k h =
     let same : (k + 12) % 12 ≡ k % 12 = omega arith in
     rw same (omega arith)
@@ -97,15 +96,23 @@ entry-of k h = rw same (entry-in ((k - 1) / 12) ((k - 1) % 12) (omega arith))
     same : k ≡ 12 * ((k - 1) / 12) + ((k - 1) % 12 + 1)
     same = omega (arith, h)
 
+-- the mean Sun has the lead for the delay of every sign
+all-mean : AllBelow (λ (i : ℕ). getD (delays Mean) i 0 ≡ 7728) 12
+unfolding delays AllBelow
+all-mean = omega arith
+
+mean-delay : (k : ℕ) → delayOf Mean k ≡ 7728
+mean-delay k = below (λ (i : ℕ). getD (delays Mean) i 0 ≡ 7728) 12 all-mean (k % 12) (omega arith)
+
 -- from there on, and not before, the signs are passed
 pub reached : (sun : Sun) (k u : ℕ) → 1 ≤ k → entryAtSeconds sun k ≤ u → 108000 * k ≤ shownBy sun u
-unfolding delayOf shownBy
-reached Mean k u h l = omega arith
+unfolding shownBy
+reached Mean k u h l = omega (arith, mean-delay k)
 reached True k u h l = omega (arith, entry-of k h .here, shown-by-mono True (entryAtSeconds True k) u l)
 
 pub unreached : (sun : Sun) (k u : ℕ) → 1 ≤ k → u < entryAtSeconds sun k → shownBy sun u < 108000 * k
-unfolding delayOf shownBy
-unreached Mean k u h l = omega arith
+unfolding shownBy
+unreached Mean k u h l = omega (arith, mean-delay k)
 unreached True k u h l = omega (arith, entry-of k h .not-before, shown-by-mono True u (entryAtSeconds True k - 1) (omega arith))
 
 -- ---- the seconds from a sign's entry to the next one's, by the mean Sun and by the true one
@@ -118,9 +125,9 @@ mostSign Mean = 108000
 mostSign True = 112252
 
 record Delay (i : ℕ) : Type 0 where
-  pub small : getD delays i 0 ≤ 15334
-  pub falls : getD delays i 0 ≤ getD delays ((i + 1) % 12) 0 + 3952
-  pub grows : getD delays ((i + 1) % 12) 0 ≤ getD delays i 0 + 4252
+  pub small : getD (delays True) i 0 ≤ 15334
+  pub falls : getD (delays True) i 0 ≤ getD (delays True) ((i + 1) % 12) 0 + 3952
+  pub grows : getD (delays True) ((i + 1) % 12) 0 ≤ getD (delays True) i 0 + 4252
 
 all-delays : AllBelow Delay 12
 unfolding delays AllBelow
@@ -130,8 +137,7 @@ delay-in : (k : ℕ) → Delay (k % 12)
 delay-in k = below Delay 12 all-delays (k % 12) (omega arith)
 
 pub delay-small : (sun : Sun) (k : ℕ) → delayOf sun k ≤ 15334
-unfolding delayOf
-delay-small Mean k = omega arith
+delay-small Mean k = omega (arith, mean-delay k)
 delay-small True k = delay-in k .small
 
 -- no day goes so far
@@ -140,8 +146,7 @@ sign-long Mean = omega arith
 sign-long True = omega arith
 
 pub next-entry : (sun : Sun) (k : ℕ) → 1 ≤ k → (entryAtSeconds sun k + leastSign sun ≤ entryAtSeconds sun (k + 1)) × (entryAtSeconds sun (k + 1) ≤ entryAtSeconds sun k + mostSign sun)
-unfolding delayOf
-next-entry Mean k h = omega arith
+next-entry Mean k h = omega (arith, mean-delay k, mean-delay (k + 1))
 next-entry True k h =
     let same : (k + 1) % 12 ≡ (k % 12 + 1) % 12 = omega arith in
     rw same (omega (arith, delay-in k))

@@ -13,7 +13,7 @@ use Rattle.panchanga.specs.TrueLongitudes.{bhuja, equation, signed, corrected, 
 use Rattle.panchanga.specs.OnDays.{trueSunAt}
 use Rattle.zodiac.specs.declared.Sun.the-variants.{Mean, True}
 use Rattle.zodiac.specs.Zodiac.{sunAt, entersOn, signEntries}
-use Rattle.zodiac.specs.Passed.{delays, delayOf, signsPassed}
+use Rattle.zodiac.specs.Passed.{delays, passedBy}
 use Rattle.zodiac.proofs.Entering.{entries-count}
 
 pub first-year : signEntries Mean 0 365 ≡ 11 ∷ 41 ∷ 72 ∷ 102 ∷ 133 ∷ 163 ∷ 194 ∷ 224 ∷ 254 ∷ 285 ∷ 315 ∷ 346 ∷ []
@@ -25,9 +25,9 @@ unfolding signEntries filtered daysFrom entersOn sunAt trueSunAt trueLongitude c
 first-true-year = refl
 
 pub all-days : length (signEntries Mean 0 401599) ≡ 13194
-unfolding signsPassed delayOf
+unfolding passedBy delays
 all-days = entries-count Mean 0 401599 (omega arith)
 
 pub all-true-days : length (signEntries True 0 401599) ≡ 13194
-unfolding signsPassed delayOf delays
+unfolding passedBy delays
 all-true-days = entries-count True 0 401599 (omega arith)

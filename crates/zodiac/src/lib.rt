@@ -7,12 +7,12 @@ use longitudes::Body;
 use longitudes::CIRCLE;
 use longitudes::SUN;
 ghost use mathlib.Core.Path.{_≡_};
-ghost use Prim.Native.Nat.{_+_, _≤_};
-ghost use lib.ListN.{length};
+ghost use Prim.Native.Nat.{ℕ, _+_, _%_, _≤_};
+ghost use lib.ListN.{getD};
 ghost use Rattle.days.specs.Days.{lastDay, onDay};
 ghost use Rattle.entries.specs.Entries.{capacity, withEntriesFrom};
-ghost use Rattle.zodiac.specs.Zodiac.{sunAt, signOf, signEntries, lengthNeeded, listingOf, entriesAfter};
-ghost use Rattle.zodiac.specs.Passed.{delayOf, signsPassed, dayPassing, daysPassing};
+ghost use Rattle.zodiac.specs.Zodiac.{sunAt, signOf, lengthNeeded, listingOf, entriesAfter};
+ghost use Rattle.zodiac.specs.Passed.{delays, passedBy, dayBy, daysBy};
 
 // Which Sun is meant.
 pub enum Sun {
@@ -23,7 +23,7 @@ pub enum Sun {
 // Seconds of arc in a sign, and how many signs there are.
 const SIGN: u32 = 108000;
 
-const SIGNS: u32 = 12;
+const SIGNS: usize = 12;
 
 // The seconds that the mean Sun goes in a cycle: eleven circles less the cycle's amount.
 const CYCLE_SECONDS: u32 = 11 * CIRCLE - SUN.d;
@@ -32,7 +32,7 @@ const CYCLE_SECONDS: u32 = 11 * CIRCLE - SUN.d;
 // to a longitude of its own: so many seconds before the sign's start, and these more, Meṣa first.
 const LEAD: u32 = 7728;
 
-const DELAYS: [u32; 12] = [
+const DELAYS: [u32; SIGNS] = [
     0,
     1750,
     5192,
@@ -88,30 +88,28 @@ pub fn sign_of(day: Day) -> NumberAnswer
     sign_by(Sun::Mean, day)
 }
 
-// By how many of the mean Sun's seconds a sign is entered later than the true Sun enters one at the soonest. The mean
+// By how many of the mean Sun's seconds each sign is entered later than the true Sun enters one at the soonest. The mean
 // Sun enters each at its start.
-fn delay(sun: Sun, signs: u32) -> u32
-    ensures { λ r. ⌜ r ≡ delayOf sun signs ⌝ }
+fn delays_of(sun: Sun) -> [u32; SIGNS]
+    ensures { λ r. ⌜ r ≡ delays sun ⌝ }
 {
     match sun {
-        Sun::Mean => LEAD,
-        Sun::True => {
-            let sign = (signs % SIGNS) as usize;
-            DELAYS[sign]
-        }
+        Sun::Mean => [LEAD; SIGNS],
+        Sun::True => DELAYS,
     }
 }
 
-// The whole signs from 0° to the Sun, with all its circles since the epoch.
-fn signs_passed(sun: Sun, day: u32) -> u32
+// The whole signs from 0° to the Sun with these delays, with all its circles since the epoch.
+fn signs_passed(delays: &[u32; SIGNS], day: u32) -> u32
     requires { ⌜ day ≤ lastDay ⌝ }
-    ensures { λ r. ⌜ r ≡ signsPassed sun day ⌝ }
+    ensures { λ r. ⌜ r ≡ passedBy (now (delays .entry)) day ⌝ }
 {
     let turned = SUN.k + day / Day::CYCLE_DAYS * CYCLE_SECONDS;
     let moved = day % Day::CYCLE_DAYS * SUN.p / SUN.q;
     let seconds = turned + moved + LEAD;
     let signs = seconds / SIGN;
-    if seconds % SIGN < delay(sun, signs) {
+    let sign = signs as usize % SIGNS;
+    if seconds % SIGN < delays[sign] {
         return signs - 1;
     }
     signs
@@ -119,59 +117,33 @@ fn signs_passed(sun: Sun, day: u32) -> u32
 
 // The first day on which so many signs are passed: whole cycles, and in the cycle the days for what is left, rounded
 // up. No day is tested.
-fn day_passing(sun: Sun, signs: u32) -> u32
-    requires { ⌜ (12 ≤ signs) × (signs ≤ 13205) ⌝ }
-    ensures { λ r. ⌜ r ≡ dayPassing sun signs ⌝ }
+fn day_passing(delays: &[u32; SIGNS], signs: u32) -> u32
+    requires { ⌜ ((12 ≤ signs) × (signs ≤ 13205)) × ((k : ℕ) → getD (now delays) (k % 12) 0 ≤ 15334) ⌝ }
+    ensures { λ r. ⌜ r ≡ dayBy (now (delays .entry)) signs ⌝ }
 {
-    let seconds = SIGN * signs + delay(sun, signs) - LEAD - SUN.k;
+    let sign = signs as usize % SIGNS;
+    let seconds = SIGN * signs + delays[sign] - LEAD - SUN.k;
     let cycle = seconds / CYCLE_SECONDS;
     let left = seconds % CYCLE_SECONDS;
     Day::CYCLE_DAYS * cycle + (SUN.q * left + (SUN.p - 1)) / SUN.p
 }
 
-// How many entries a span has: the Sun enters each sign once, so as many as it passes between the ends.
-fn count_entries(sun: Sun, first: u32, last: u32) -> u32
-    requires { ⌜ (first ≤ last) × (last ≤ lastDay) ⌝ }
-    ensures { λ r. ⌜ r ≡ length (signEntries sun first last) ⌝ }
-{
-    let before = signs_passed(sun, first);
-    let after = signs_passed(sun, last);
-    after - before
-}
-
 // Puts the days on which so many signs are passed, from sign `signs` on, into the list, as many as it has entries for.
-fn put_days(sun: Sun, signs: u32, count: u32, list: &mut [u8])
-    requires { ⌜ (12 ≤ signs) × (signs + count ≤ 13206) ⌝ }
-    ensures { λ _. ⌜ now (list .exit) ≡ withEntriesFrom (now (list .entry)) 0 (daysPassing sun signs count) ⌝ }
+fn put_days(delays: &[u32; SIGNS], signs: u32, count: u32, list: &mut [u8])
+    requires { ⌜ ((12 ≤ signs) × (signs + count ≤ 13206)) × ((k : ℕ) → getD (now delays) (k % 12) 0 ≤ 15334) ⌝ }
+    ensures { λ _. ⌜ now (list .exit) ≡ withEntriesFrom (now (list .entry)) 0 (daysBy (now (delays .entry)) signs count) ⌝ }
 {
     let mut index = 0;
     while index < count {
-        let day = day_passing(sun, signs + index);
+        let day = day_passing(delays, signs + index);
         entries::put_entry(list, index as usize, day);
         index += 1;
     }
 }
 
-// How many entries a span has: the length of a list that would do.
-pub fn entries_length_by(sun: Sun, first: u32, last: u32) -> NumberAnswer
-    ensures { λ r. ⌜ r ≡ lengthNeeded sun first last ⌝ }
-{
-    let refusal = days::span_refusal(first, last);
-    if refusal != refusal::NONE {
-        return NumberAnswer::refused(refusal);
-    }
-    NumberAnswer::accepted(count_entries(sun, first, last))
-}
-
-// The same by the mean Sun.
-pub fn sign_entries_length(first: u32, last: u32) -> NumberAnswer
-    ensures { λ r. ⌜ r ≡ lengthNeeded Sun.Mean first last ⌝ }
-{
-    entries_length_by(Sun::Mean, first, last)
-}
-
 // Writes the days of the span after its first on which the Sun stands in another sign than the day before to the list,
-// earliest first, or leaves it as it was.
+// earliest first, or leaves it as it was. The Sun enters each sign once, so they are as many as it passes between the
+// ends.
 pub fn entries_by(sun: Sun, first: u32, last: u32, list: &mut [u8]) -> Listing
     ensures { λ r. ⌜ r ≡ listingOf sun first last (capacity (now (list .entry))) ⌝ }
     ensures { λ _. ⌜ now (list .exit) ≡ entriesAfter sun first last (now (list .entry)) ⌝ }
@@ -184,7 +156,10 @@ pub fn entries_by(sun: Sun, first: u32, last: u32, list: &mut [u8]) -> Listing
             examined: 0,
         };
     }
-    let length = count_entries(sun, first, last);
+    let delays = delays_of(sun);
+    let before = signs_passed(&delays, first);
+    let after = signs_passed(&delays, last);
+    let length = after - before;
     if list.len() / entries::ENTRY_BYTES < length as usize {
         return Listing {
             refusal: refusal::LIST_TOO_SHORT,
@@ -192,8 +167,7 @@ pub fn entries_by(sun: Sun, first: u32, last: u32, list: &mut [u8]) -> Listing
             examined: 0,
         };
     }
-    let passed = signs_passed(sun, first);
-    put_days(sun, passed + 1, length, list);
+    put_days(&delays, before + 1, length, list);
     Listing {
         refusal: refusal::NONE,
         length,
@@ -207,4 +181,26 @@ pub fn sign_entries(first: u32, last: u32, list: &mut [u8]) -> Listing
     ensures { λ _. ⌜ now (list .exit) ≡ entriesAfter Sun.Mean first last (now (list .entry)) ⌝ }
 {
     entries_by(Sun::Mean, first, last, list)
+}
+
+// How many entries a span has, the length of a list that would do: told for a list without any.
+pub fn entries_length_by(sun: Sun, first: u32, last: u32) -> NumberAnswer
+    ensures { λ r. ⌜ r ≡ lengthNeeded sun first last ⌝ }
+{
+    let mut none = [0u8; 0];
+    let found = entries_by(sun, first, last, &mut none);
+    if found.refusal == refusal::LIST_TOO_SHORT {
+        return NumberAnswer::accepted(found.length);
+    }
+    NumberAnswer {
+        refusal: found.refusal,
+        number: found.length,
+    }
+}
+
+// The same by the mean Sun.
+pub fn sign_entries_length(first: u32, last: u32) -> NumberAnswer
+    ensures { λ r. ⌜ r ≡ lengthNeeded Sun.Mean first last ⌝ }
+{
+    entries_length_by(Sun::Mean, first, last)
 }

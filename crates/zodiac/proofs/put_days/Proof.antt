@@ -6,10 +6,10 @@ use Rattle.zodiac.proofs.put_days.Statement.{statement}
 use Rattle.zodiac.proofs.put_days.Tie as tie
 
 abbrev Inv-loop : tie.InvT-loop
-Inv-loop sun signs count list₀ index₀ list index = Filling sun signs count list₀ list index
+Inv-loop delays signs count list₀ index₀ list index = Filling delays signs count list₀ list index
 
 abbrev μ-loop : tie.MeasureT-loop
-μ-loop sun signs count list₀ index₀ list index = count - index
+μ-loop delays signs count list₀ index₀ list index = count - index
 
 loop-holds : tie.Need-loop-holds Inv-loop μ-loop
 loop-holds c = filling-start _ _ _ _
