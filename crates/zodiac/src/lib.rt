@@ -88,8 +88,8 @@ pub fn sign_of(day: Day) -> NumberAnswer
     sign_by(Sun::Mean, day)
 }
 
-// By how many of the mean Sun's seconds each sign is entered later than the true Sun enters one at the soonest. The mean
-// Sun enters each at its start.
+// By how many of the mean Sun's seconds each sign is entered later than the true Sun enters one at the soonest. The
+// mean Sun enters each at its start.
 fn delays_of(sun: Sun) -> [u32; SIGNS]
     ensures { λ r. ⌜ r ≡ delays sun ⌝ }
 {
