@@ -103,6 +103,9 @@ unsafe extern "C" {
     /// The list is lent as the search's.
     pub fn graha_sign_entries(first: u32, last: u32, list: *mut u8, list_len: usize) -> u32;
     pub safe fn graha_sign_entries_length(first: u32, last: u32) -> u32;
+    /// By the true Sun.
+    pub fn graha_true_sign_entries(first: u32, last: u32, list: *mut u8, list_len: usize) -> u32;
+    pub safe fn graha_true_sign_entries_length(first: u32, last: u32) -> u32;
 
     /// Leafing by lunar month, on a row with this number of turns and of days covered. The list is lent for
     /// the call, and is only read where a day is asked for.
@@ -166,6 +169,13 @@ unsafe extern "C" {
     pub safe fn graha_follow_result(day: u32, body: u32) -> u32;
     pub safe fn graha_follow_order(day: u32, body: u32) -> u32;
     pub safe fn graha_follow_rate(day: u32, body: u32) -> f64;
+    /// The same for true places.
+    pub safe fn graha_true_place_result(day: u32, body: u32) -> u32;
+    pub safe fn graha_true_place_order(day: u32, body: u32) -> u32;
+    pub safe fn graha_true_place_angle(day: u32, body: u32) -> f64;
+    pub safe fn graha_true_follow_result(day: u32, body: u32) -> u32;
+    pub safe fn graha_true_follow_order(day: u32, body: u32) -> u32;
+    pub safe fn graha_true_follow_rate(day: u32, body: u32) -> f64;
     /// An arm's state after an order and its value.
     pub safe fn graha_carry_out_result(angle: f64, rate: f64, order: u32, value: f64) -> u32;
     pub safe fn graha_carry_out_angle(angle: f64, rate: f64, order: u32, value: f64) -> f64;

@@ -70,6 +70,9 @@ fn main() {
     checks.part("drift from the older books", |checks| {
         runs::drift::run(checks, &almanac)
     });
+    checks.part("true places and their rates", |checks| {
+        runs::true_rates::run(checks, &almanac)
+    });
     checks.part("orders for the arms", |checks| {
         runs::arms::run(checks, &almanac)
     });

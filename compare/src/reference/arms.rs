@@ -1,8 +1,10 @@
-//! Paper 02, "L13. Orders for the arms". Floats are their bits (`float`).
+//! Paper 02, "L13. Orders for the arms"; and P2's "orders for true places", which are "as L13, with the
+//! true longitude in place of the mean one". Floats are their bits (`float`).
 
 use super::almanac::Almanac;
 use super::exact::short_way;
 use super::float::{nearest, SIGN};
+use super::places::Places;
 use super::refusal::{Answer, NO_SUCH_BODY};
 
 /// "An order is to hold, to go to an angle, or to run at a rate."
@@ -52,24 +54,41 @@ impl Degrees {
         sign | self.0[seconds.unsigned_abs() as usize]
     }
 
-    /// "Asked to place a body, the order is to go [...]. The angle is the mean place's whole seconds
+    /// "Asked to place a body, the order is to go [...]. The angle is the [...] place's whole seconds
     /// divided by 3600, rounded once." "Refusals: 2, then 16 for a body above 8."
-    pub fn place(&self, almanac: &Almanac, number: u32, body: u32) -> Answer<Order> {
+    pub fn place(
+        &self,
+        almanac: &Almanac,
+        places: Places,
+        number: u32,
+        body: u32,
+    ) -> Answer<Order> {
         let day = almanac.day(number)?;
-        let seconds = *day.mean.get(body as usize).ok_or(NO_SUCH_BODY)?;
+        let seconds = places.of(day, body as usize).ok_or(NO_SUCH_BODY)?;
         Ok(Order::Go(self.angle(seconds)))
     }
 
     /// "Asked to follow it, to run [...]. The rate is the signed short way to the next day's whole
     /// seconds [...]. Asked to follow on the last day, the order is to hold."
-    pub fn follow(&self, almanac: &Almanac, number: u32, body: u32) -> Answer<Order> {
-        let day = almanac.day(number)?;
-        let from = *day.mean.get(body as usize).ok_or(NO_SUCH_BODY)?;
-        Ok(match almanac.day(number + 1) {
-            Ok(next) => Order::Run(self.rate(short_way(from, next.mean[body as usize]))),
-            Err(_) => Order::Hold,
-        })
+    pub fn follow(
+        &self,
+        almanac: &Almanac,
+        places: Places,
+        number: u32,
+        body: u32,
+    ) -> Answer<Order> {
+        let way = way_from(almanac, places, number, body)?;
+        Ok(way.map_or(Order::Hold, |way| Order::Run(self.rate(way))))
     }
+}
+
+/// The signed short way of a body from a day to the next; none from the last.
+pub fn way_from(almanac: &Almanac, places: Places, number: u32, body: u32) -> Answer<Option<i64>> {
+    let day = almanac.day(number)?;
+    let from = places.of(day, body as usize).ok_or(NO_SUCH_BODY)?;
+    let next = almanac.day(number + 1).ok();
+    let to = next.and_then(|next| places.of(next, body as usize));
+    Ok(to.map(|to| short_way(from, to)))
 }
 
 /// "The order given is then to hold", with a refusal.

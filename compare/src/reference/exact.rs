@@ -36,6 +36,15 @@ impl Fraction {
         Fraction::new(self.over * number, self.under)
     }
 
+    pub fn product(self, other: Fraction) -> Fraction {
+        Fraction::new(self.over * other.over, self.under * other.under)
+    }
+
+    /// By a fraction above 0.
+    pub fn quotient(self, other: Fraction) -> Fraction {
+        Fraction::new(self.over * other.under, self.under * other.over)
+    }
+
     /// The greatest whole number not above the fraction.
     pub fn floor(self) -> i128 {
         self.over.div_euclid(self.under)

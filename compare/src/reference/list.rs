@@ -1,5 +1,5 @@
 //! Paper 01: the list that a caller lends for days, as the search writes them, and the days of sign
-//! entries (paper 02, L10).
+//! entries (paper 02, L10, and P2).
 
 use super::refusal::LIST_TOO_SHORT;
 

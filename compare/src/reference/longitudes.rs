@@ -7,6 +7,7 @@ use super::exact::{reduced, Fraction};
 pub const SUN: usize = 0;
 pub const MOON: usize = 1;
 pub const MOON_APOGEE: usize = 2;
+pub const MOON_NODE: usize = 3;
 pub const MARS: usize = 4;
 pub const MERCURY_ANOMALY: usize = 5;
 pub const JUPITER: usize = 6;

@@ -1,4 +1,4 @@
-//! The rules of paper 01, of paper 02's L1 to L5 and L7 to L14 and of P1, each written a second
+//! The rules of paper 01, of paper 02's L1 to L5 and L7 to L14 and of P1 and P2, each written a second
 //! time and by another method than the proved crates: exact fractions with one floor, dates by
 //! walking the calendar day by day, searches, entries into signs, month turns and drifts that test
 //! every day of their span, reasons from a list of all conditions, files read by writing them anew,
@@ -27,6 +27,7 @@ pub mod month_starts;
 pub mod motions;
 pub mod page;
 pub mod panchanga;
+pub mod places;
 pub mod planets;
 pub mod plate;
 pub mod reasons;
@@ -38,4 +39,5 @@ pub mod search;
 pub mod sheet;
 pub mod signs;
 pub mod span;
+pub mod true_places;
 pub mod why;

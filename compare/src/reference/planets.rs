@@ -33,7 +33,7 @@ pub struct Planet {
     pub sighra: [i128; 13],
     pub manda: [i128; 7],
     /// In degrees.
-    apogee: i128,
+    pub apogee: i128,
 }
 
 /// "Mars to Saturn", in the paper's order.

@@ -1,5 +1,6 @@
-//! Orders for the arms, over the host's calls: the nine bodies placed and followed on all days of the
-//! table, floats compared bit for bit, refused days and bodies, and orders carried out.
+//! Orders for the arms, over the host's calls, for mean places and for true ones: the nine bodies placed
+//! and followed on all days of the table, floats compared bit for bit, refused days and bodies, and
+//! orders carried out.
 
 use crate::calls::*;
 use crate::checks::Checks;
@@ -9,9 +10,54 @@ use crate::reference::arms::{given, Arm, Degrees, Order};
 use crate::reference::days::LAST_DAY;
 use crate::reference::exact::short_way;
 use crate::reference::float::{nearest, parts, SIGN};
-use crate::reference::refusal::{result_number, BAD_INPUT};
+use crate::reference::places::Places;
+use crate::reference::refusal::{result_number, Answer, BAD_INPUT};
 
 use super::{NO_DAYS, WIDTH_EDGES};
+
+/// The three calls that give one order, with their names.
+struct OrderCalls {
+    result: (&'static str, extern "C" fn(u32, u32) -> u32),
+    order: (&'static str, extern "C" fn(u32, u32) -> u32),
+    float: (&'static str, extern "C" fn(u32, u32) -> f64),
+}
+
+/// The calls for some places.
+struct Calls {
+    places: Places,
+    place: OrderCalls,
+    follow: OrderCalls,
+}
+
+/// L13's.
+const MEAN: Calls = Calls {
+    places: Places::Mean,
+    place: OrderCalls {
+        result: ("graha_place_result", graha_place_result),
+        order: ("graha_place_order", graha_place_order),
+        float: ("graha_place_angle", graha_place_angle),
+    },
+    follow: OrderCalls {
+        result: ("graha_follow_result", graha_follow_result),
+        order: ("graha_follow_order", graha_follow_order),
+        float: ("graha_follow_rate", graha_follow_rate),
+    },
+};
+
+/// P2's.
+const TRUE: Calls = Calls {
+    places: Places::True,
+    place: OrderCalls {
+        result: ("graha_true_place_result", graha_true_place_result),
+        order: ("graha_true_place_order", graha_true_place_order),
+        float: ("graha_true_place_angle", graha_true_place_angle),
+    },
+    follow: OrderCalls {
+        result: ("graha_true_follow_result", graha_true_follow_result),
+        order: ("graha_true_follow_order", graha_true_follow_order),
+        float: ("graha_true_follow_rate", graha_true_follow_rate),
+    },
+};
 
 /// The call's number of an order.
 fn number_of(order: Order) -> u32 {
@@ -42,32 +88,74 @@ fn compare_float(
     checks.same("a number, and not −0.0", input, true, number);
 }
 
-/// The orders' calls; and on each day, for one body, an arm that carries out the one and then the other.
-fn compare(checks: &mut Checks, almanac: &Almanac, degrees: &Degrees, day: u32, body: u32) {
-    let input = || format!("day {day}, body {body}");
-    let place = degrees.place(almanac, day, body);
-    let result = result_number(&place);
-    let came = graha_place_result(day, body);
-    checks.same("graha_place_result", input, result, came);
-    let order = number_of(given(&place));
-    let came = graha_place_order(day, body);
-    checks.same("graha_place_order", input, order, came);
-    let angle = float_of(given(&place));
-    let came = graha_place_angle(day, body);
-    compare_float(checks, "graha_place_angle", input, angle, came);
+impl OrderCalls {
+    fn compare(&self, checks: &mut Checks, day: u32, body: u32, expected: &Answer<Order>) {
+        let input = || format!("day {day}, body {body}");
+        let (name, call) = self.result;
+        checks.same(name, input, result_number(expected), call(day, body));
+        let (name, call) = self.order;
+        let order = number_of(given(expected));
+        checks.same(name, input, order, call(day, body));
+        let (name, call) = self.float;
+        let float = float_of(given(expected));
+        compare_float(checks, name, input, float, call(day, body));
+    }
+}
 
-    let follow = degrees.follow(almanac, day, body);
-    let result = result_number(&follow);
-    let came = graha_follow_result(day, body);
-    checks.same("graha_follow_result", input, result, came);
-    let order = number_of(given(&follow));
-    let came = graha_follow_order(day, body);
-    checks.same("graha_follow_order", input, order, came);
-    let rate = float_of(given(&follow));
-    let came = graha_follow_rate(day, body);
-    compare_float(checks, "graha_follow_rate", input, rate, came);
-    if day % 9 == body {
-        driven(checks, input, &[given(&place), given(&follow)]);
+/// The reference, and the calls that are compared with it.
+struct Run<'a> {
+    almanac: &'a Almanac,
+    degrees: &'a Degrees,
+    calls: &'a Calls,
+}
+
+impl Run<'_> {
+    /// Both orders; and on each day, for one body, an arm that carries out the one and then the other.
+    fn compare(&self, checks: &mut Checks, day: u32, body: u32) {
+        let Run {
+            almanac,
+            degrees,
+            calls,
+        } = self;
+        let place = degrees.place(almanac, calls.places, day, body);
+        calls.place.compare(checks, day, body, &place);
+        let follow = degrees.follow(almanac, calls.places, day, body);
+        calls.follow.compare(checks, day, body, &follow);
+        if day % 9 == body {
+            let input = || format!("day {day}, body {body}");
+            driven(checks, input, &[given(&place), given(&follow)]);
+        }
+    }
+
+    fn every_day(&self, checks: &mut Checks) {
+        for day in 0..=LAST_DAY {
+            for body in 0..9 {
+                self.compare(checks, day, body);
+            }
+        }
+    }
+
+    /// Numbers that are no days, bodies above 8, and both together, where 2 comes first.
+    fn refused(&self, checks: &mut Checks) {
+        let mut random = Random::from_seed();
+        let mut compare = |day, body| self.compare(checks, day, body);
+        let drawn: Vec<u32> = (0..2000).map(|_| random.number()).collect();
+        let behind = LAST_DAY + 1..=LAST_DAY + 1000;
+        for day in behind.chain(NO_DAYS).chain(WIDTH_EDGES).chain(drawn) {
+            for body in (0..=12).chain(WIDTH_EDGES) {
+                compare(day, body);
+            }
+        }
+        let edges = [0, 1, 4015, 4016, LAST_DAY - 1, LAST_DAY];
+        let drawn: Vec<u32> = (0..2000).map(|_| random.below(LAST_DAY + 1)).collect();
+        for day in edges.into_iter().chain(drawn) {
+            for body in (0..=40).chain(WIDTH_EDGES).chain([random.number()]) {
+                compare(day, body);
+            }
+        }
+        for _ in 0..20_000 {
+            compare(random.number(), random.number());
+        }
     }
 }
 
@@ -214,39 +302,19 @@ fn ways(checks: &mut Checks) {
     }
 }
 
-/// Numbers that are no days, bodies above 8, and both together, where 2 comes first.
-fn refused(checks: &mut Checks, almanac: &Almanac, degrees: &Degrees) {
-    let mut random = Random::from_seed();
-    let mut compare = |day, body| compare(checks, almanac, degrees, day, body);
-    let drawn: Vec<u32> = (0..2000).map(|_| random.number()).collect();
-    let behind = LAST_DAY + 1..=LAST_DAY + 1000;
-    for day in behind.chain(NO_DAYS).chain(WIDTH_EDGES).chain(drawn) {
-        for body in (0..=12).chain(WIDTH_EDGES) {
-            compare(day, body);
-        }
-    }
-    let edges = [0, 1, 4015, 4016, LAST_DAY - 1, LAST_DAY];
-    let drawn: Vec<u32> = (0..2000).map(|_| random.below(LAST_DAY + 1)).collect();
-    for day in edges.into_iter().chain(drawn) {
-        for body in (0..=40).chain(WIDTH_EDGES).chain([random.number()]) {
-            compare(day, body);
-        }
-    }
-    for _ in 0..20_000 {
-        compare(random.number(), random.number());
-    }
-}
-
 pub fn run(checks: &mut Checks, almanac: &Almanac) {
     let degrees = Degrees::of_circle();
     known_floats(checks);
     quotients(checks, &degrees);
     ways(checks);
     carried(checks);
-    for day in 0..=LAST_DAY {
-        for body in 0..9 {
-            compare(checks, almanac, &degrees, day, body);
-        }
+    for calls in [&MEAN, &TRUE] {
+        let run = Run {
+            almanac,
+            degrees: &degrees,
+            calls,
+        };
+        run.every_day(checks);
+        run.refused(checks);
     }
-    refused(checks, almanac, &degrees);
 }

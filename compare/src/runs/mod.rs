@@ -39,6 +39,7 @@ pub mod searches;
 pub mod signs;
 pub mod smudged;
 pub mod span_input;
+pub mod true_rates;
 pub mod why;
 pub mod worked;
 
