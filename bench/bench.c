@@ -19,9 +19,11 @@ static void ours(uint32_t width, size_t len) { sink += graha_search(0, DAYS - 1,
 static void plain(uint32_t width, size_t len) { sink += plain_search(0, DAYS - 1, 0, width, 0, other, len).length; }
 static void every(uint32_t width, size_t len) { sink += plain_every_day(0, DAYS - 1, 0, width, 0, other, len).length; }
 
-/* The sign entries of the whole span. */
+/* The sign entries of the whole span, by the mean Sun and by the true one. */
 static void signs(uint32_t unused, size_t len) { (void)unused, sink += graha_sign_entries(0, DAYS - 1, list, len); }
 static void plain_signs(uint32_t unused, size_t len) { (void)unused, sink += plain_sign_entries(0, DAYS - 1, other, len).length; }
+static void true_signs(uint32_t unused, size_t len) { (void)unused, sink += graha_true_sign_entries(0, DAYS - 1, list, len); }
+static void plain_true_signs(uint32_t unused, size_t len) { (void)unused, sink += plain_true_sign_entries(0, DAYS - 1, other, len).length; }
 
 /* The month turns of the whole span at once; and the month of a day in every cycle, on the whole row. */
 enum { TURNS = 13600 };
@@ -123,6 +125,16 @@ static void all_bodies(degrees f) {
 }
 static void angles(uint32_t plain, size_t unused) { (void)unused, all_bodies(plain ? plain_place_angle : graha_place_angle); }
 static void rates(uint32_t plain, size_t unused) { (void)unused, all_bodies(plain ? plain_follow_rate : graha_follow_rate); }
+static void true_angles(uint32_t plain, size_t unused) { (void)unused, all_bodies(plain ? plain_true_place_angle : graha_true_place_angle); }
+static void true_rates(uint32_t plain, size_t unused) { (void)unused, all_bodies(plain ? plain_true_follow_rate : graha_true_follow_rate); }
+
+/* Whether two calls agree on every body and day. */
+static int alike(degrees f, degrees g) {
+    for (uint32_t day = 0; day < DAYS; day++)
+        for (uint32_t body = 0; body < 9; body++)
+            if (f(day, body) != g(day, body)) return 0;
+    return 1;
+}
 
 typedef struct {
     const char *name;
@@ -152,7 +164,8 @@ static void *search_all(void *unused) {
     ours(DENSE, needed(DENSE));
     sink += graha_search_length(0, DAYS - 1, 0, SPARSE, 0) + graha_search_looked(0, DAYS - 1, 0, SPARSE, 0);
     signs(0, ROOM);
-    sink += graha_sign_entries_length(0, DAYS - 1);
+    true_signs(0, ROOM);
+    sink += graha_sign_entries_length(0, DAYS - 1) + graha_true_sign_entries_length(0, DAYS - 1);
     turns(0, 4 * TURNS);
     sink += graha_months_extended_turns(0, 1, DAYS - 1, 4 * TURNS) + graha_month_result(TURNS, DAYS, 7, list, 4 * TURNS) +
             graha_month_start(TURNS, DAYS, 7, list, 4 * TURNS) + graha_month_number(TURNS, DAYS, 7, list, 4 * TURNS);
@@ -175,6 +188,8 @@ static void *almanacs(void *unused) {
 static void *orders(void *unused) {
     sink += graha_place_result(7, 5) + graha_place_order(7, 5) + graha_follow_result(7, 5) + graha_follow_order(7, 5) +
             (uint64_t)(graha_place_angle(7, 5) + graha_follow_rate(7, 5));
+    sink += graha_true_place_result(7, 5) + graha_true_place_order(7, 5) + graha_true_follow_result(7, 5) + graha_true_follow_order(7, 5) +
+            (uint64_t)(graha_true_place_angle(7, 5) + graha_true_follow_rate(7, 5));
     sink += graha_carry_out_result(1.0, 0.0, 2, 0.5) + (uint64_t)(graha_carry_out_angle(1.0, 0.0, 2, 0.5) + graha_carry_out_rate(1.0, 0.0, 2, 0.5));
     return unused;
 }
@@ -237,6 +252,13 @@ int main(int count, char **word) {
         return 1;
     }
     pair("sign entries, a list that just fits", search_job(signs, 0, signs_needed), search_job(plain_signs, 0, ROOM), -8);
+    signs_needed = 4 * (size_t)graha_true_sign_entries_length(0, DAYS - 1);
+    pair("true sign entries, against a test of every day", search_job(true_signs, 0, ROOM), search_job(plain_true_signs, 0, ROOM), -8);
+    if (memcmp(list, other, signs_needed)) {
+        puts("the two lists of the true Sun's sign entries differ");
+        return 1;
+    }
+    pair("true sign entries, a list that just fits", search_job(true_signs, 0, signs_needed), search_job(plain_true_signs, 0, ROOM), -8);
     pair("month turns, an entry for each day", search_job(turns, 0, ROOM), search_job(plain_turns, 0, ROOM), 1.1);
     pair("month turns, a list that just fits", search_job(turns, 0, 4 * TURNS), search_job(plain_turns, 0, 4 * TURNS), 1.1);
     pair("the month of a day in every cycle", search_job(months_asked, 0, 4 * TURNS), search_job(plain_months_asked, 0, 4 * TURNS), 1.1);
@@ -293,12 +315,13 @@ int main(int count, char **word) {
     }
     pair("nine arms placed", search_job(angles, 0, 0), search_job(angles, 1, 0), 1.1);
     pair("nine arms followed", search_job(rates, 0, 0), search_job(rates, 1, 0), 1.1);
-    for (uint32_t day = 0; day < DAYS; day++)
-        for (uint32_t body = 0; body < 9; body++)
-            if (graha_place_angle(day, body) != plain_place_angle(day, body) || graha_follow_rate(day, body) != plain_follow_rate(day, body)) {
-                puts("the two arms differ");
-                return 1;
-            }
+    pair("nine arms placed by true places", search_job(true_angles, 0, 0), search_job(true_angles, 1, 0), 1.1);
+    pair("nine arms followed by true places", search_job(true_rates, 0, 0), search_job(true_rates, 1, 0), 1.1);
+    if (!alike(graha_place_angle, plain_place_angle) || !alike(graha_follow_rate, plain_follow_rate) ||
+        !alike(graha_true_place_angle, plain_true_place_angle) || !alike(graha_true_follow_rate, plain_true_follow_rate)) {
+        puts("the two arms differ");
+        return 1;
+    }
     if (memcmp(month, other_month, sizeof month)) {
         puts("the two months differ");
         return 1;

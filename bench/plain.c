@@ -101,14 +101,30 @@ static inline uint32_t body_mean(uint32_t body, uint32_t day) {
     }
 }
 
-double plain_place_angle(uint32_t day, uint32_t body) { return day > LAST || body > 8 ? 0.0 : body_mean(body, day) / 3600.0; }
-double plain_follow_rate(uint32_t day, uint32_t body) {
-    if (day >= LAST || body > 8) return 0.0;
-    int32_t way = (int32_t)body_mean(body, day + 1) - (int32_t)body_mean(body, day);
+static inline uint32_t body_true(uint32_t body, uint32_t day) {
+    switch (body) {
+    case 0: return true_sun(day);
+    case 1: return true_moon(day);
+    case 4: return outer(0, day, body_mean(4, day));
+    case 5: return planet(1, sun(day), body_mean(5, day));
+    case 6: return outer(2, day, body_mean(6, day));
+    case 7: return planet(3, sun(day), body_mean(7, day));
+    case 8: return outer(4, day, body_mean(8, day));
+    default: return body_mean(body, day);
+    }
+}
+
+static inline double rate(uint32_t at, uint32_t next) {
+    int32_t way = (int32_t)next - (int32_t)at;
     if (way >= 648000) way -= 1296000;
     if (way < -648000) way += 1296000;
     return way / 3600.0;
 }
+
+double plain_place_angle(uint32_t day, uint32_t body) { return day > LAST || body > 8 ? 0.0 : body_mean(body, day) / 3600.0; }
+double plain_follow_rate(uint32_t day, uint32_t body) { return day >= LAST || body > 8 ? 0.0 : rate(body_mean(body, day), body_mean(body, day + 1)); }
+double plain_true_place_angle(uint32_t day, uint32_t body) { return day > LAST || body > 8 ? 0.0 : body_true(body, day) / 3600.0; }
+double plain_true_follow_rate(uint32_t day, uint32_t body) { return day >= LAST || body > 8 ? 0.0 : rate(body_true(body, day), body_true(body, day + 1)); }
 
 uint32_t plain_fill_records(uint32_t edition, plain_record *records, uint64_t len) {
     if (edition != 1 && edition != 2) return 14;
@@ -257,13 +273,14 @@ plain_found plain_every_day(uint32_t first, uint32_t last, uint32_t start, uint3
     return found;
 }
 
-plain_found plain_sign_entries(uint32_t first, uint32_t last, uint8_t *list, size_t len) {
+/* By a Sun's place, which is laid open in the loop. */
+static inline __attribute__((always_inline)) plain_found sign_entries(uint32_t (*place)(uint32_t), uint32_t first, uint32_t last, uint8_t *list, size_t len) {
     plain_found found = {first > LAST || last > LAST ? 2 : last < first ? 5 : 0, 0, 0};
     if (found.refusal) return found;
     size_t at = 0;
-    uint32_t before = sun(first) / 108000;
+    uint32_t before = place(first) / 108000;
     for (uint32_t day = first + 1; day <= last; day++) {
-        uint32_t sign = sun(day) / 108000;
+        uint32_t sign = place(day) / 108000;
         if (sign != before) {
             if (at + 4 > len) {
                 found.refusal = 7;
@@ -277,6 +294,9 @@ plain_found plain_sign_entries(uint32_t first, uint32_t last, uint8_t *list, siz
     }
     return found;
 }
+
+plain_found plain_sign_entries(uint32_t first, uint32_t last, uint8_t *list, size_t len) { return sign_entries(sun, first, last, list, len); }
+plain_found plain_true_sign_entries(uint32_t first, uint32_t last, uint8_t *list, size_t len) { return sign_entries(true_sun, first, last, list, len); }
 
 static inline uint32_t tithi_of(uint32_t day) { return past(true_moon(day), true_sun(day)) / 43200; }
 

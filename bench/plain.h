@@ -32,6 +32,9 @@ uint32_t plain_true_venus(uint32_t day);
 uint32_t plain_true_saturn(uint32_t day);
 double plain_place_angle(uint32_t day, uint32_t body);
 double plain_follow_rate(uint32_t day, uint32_t body);
+/* By true places; of the apogee and the node by the mean ones. */
+double plain_true_place_angle(uint32_t day, uint32_t body);
+double plain_true_follow_rate(uint32_t day, uint32_t body);
 uint32_t plain_true_sun(uint32_t day);
 uint32_t plain_true_moon(uint32_t day);
 uint32_t plain_tithi(uint32_t day);
@@ -50,9 +53,10 @@ typedef struct {
 /* One pass over the walk; the list must have an entry for each day of the span. */
 plain_found plain_search(uint32_t first, uint32_t last, uint32_t start, uint32_t width, uint32_t weekday, uint8_t *list, size_t len);
 
-/* The days after the first on which the mean Sun stands in another sign than the day before, by a test of every day of
- * the span. */
+/* The days after the first on which the mean Sun, or the true one, stands in another sign than the day before, by a
+ * test of every day of the span. */
 plain_found plain_sign_entries(uint32_t first, uint32_t last, uint8_t *list, size_t len);
+plain_found plain_true_sign_entries(uint32_t first, uint32_t last, uint8_t *list, size_t len);
 
 /* Lines of ISO dates to a list of days and back: 2^32 times the refusal's number, and how many entries or bytes were
  * written. A refusal writes nothing. */
