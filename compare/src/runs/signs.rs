@@ -150,7 +150,12 @@ impl Entries {
             checks.same("the arc is entered", input, expected, came);
         }
         let turns: Vec<u32> = list.iter().copied().filter(|day| day % 4016 == 0).collect();
-        checks.same("the entries at turns", table, &self.at_turns[..], &turns[..]);
+        checks.same(
+            "the entries at turns",
+            table,
+            &self.at_turns[..],
+            &turns[..],
+        );
         let mut lengths = BTreeMap::new();
         for days in months(&list) {
             *lengths.entry(days).or_insert(0) += 1;
@@ -173,12 +178,13 @@ impl Entries {
         }
     }
 
-    /// All spans that begin and end at most two days from an entry, or from each fifth one at most four,
-    /// past the other Sun's; and that from each entry to the next and to the day before it.
+    /// All spans that begin and end at most two days from an entry, or from each fifth one of the true Sun
+    /// at most four, past the mean Sun's; and that from each entry to the next and to the day before it.
     fn about_entries(&self, checks: &mut Checks, almanac: &Almanac) {
         let list = all_entries(almanac, self.places);
         for (at, entry) in list.iter().enumerate() {
-            let reach = if at % 5 == 0 { 4 } else { 2 };
+            let far = self.places == Places::True && at % 5 == 0;
+            let reach = if far { 4 } else { 2 };
             for first in entry - reach..=entry + reach {
                 for last in first..=entry + reach {
                     self.compare_shortly(checks, almanac, (first, last));
