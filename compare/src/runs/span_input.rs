@@ -65,7 +65,7 @@ const REFUSED: [&str; 26] = [
     "5\u{a0}50",
 ];
 
-/// Lines with P2's word, which one program takes behind its two days, and here and there.
+/// Lines with P2's word, behind the two days and elsewhere: `signs` takes it there, other programs nowhere.
 const WITH_TRUE: [&str; 30] = [
     "5 50 true",
     " 5\t50\r true \r",
