@@ -9,7 +9,7 @@ use native.Mathlib.Nat.{pow-succ', mul-one, mul-assoc, add-mul-div-left, div-add
 use native.Mathlib.Omega.{arith}
 use lib.Dec.{leb, ltb, eqb}
 use lib.Pow.{pow-add, pow-pos, pow-mono}
-use borrow.Author.Tests.{leb-true, ltb-true, eqb-true, eqb-false, eq-eqb, ne-eqb}
+use borrow.Author.Tests.{ltb-true, eqb-true, eqb-false, eq-eqb, ne-eqb}
 use Rattle.query.specs.declared.Asked.{Asked}
 use Rattle.query.specs.Conditions.{numberBit, hasNumber, withNumber, numbersInRange, askedInRange}
 use Rattle.query.proofs.Numbers.{not-had}
