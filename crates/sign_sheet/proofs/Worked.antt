@@ -20,7 +20,7 @@ use Rattle.text.specs.Decimal.{isDigit, allDigits, withDigit, valueOf, isNumber
 use Rattle.text.specs.Lines.{spaced, refusalLine}
 use Rattle.text.specs.Sheets.{joined}
 use Rattle.values.specs.Values.{threeRead, numberOr, dateRead, dayRead}
-use Rattle.words.specs.Words.{isSeparator, runLength, upTo, afterFirst, trimmed, afterWords, sameBytes, placeIn, nameAt}
+use Rattle.words.specs.Words.{isSeparator, runLength, upTo, afterFirst, trimmed, afterWords, sameBytes, behindMark, smallByte, smallFrom, placeIn, nameAt}
 use Rattle.zodiac.specs.Zodiac.{entersOn, signEntries}
 use Rattle.sign_sheet.specs.SignSheets.{signHeading, signLine, signLines, signsPrinted}
 
@@ -40,5 +40,5 @@ pub worked :
     ∷ ascii "refused 2\n"
     ∷ ascii "refused 3\n"
     ∷ []
-unfolding isSeparator runLength upTo afterFirst trimmed afterWords sameBytes placeIn nameAt isDigit allDigits withDigit valueOf isNumber numberRead digitsWithin digitsOf spaced refusalLine threeRead numberOr dateRead dayRead isEdition numbersInRange weekdaysInRange arcInRange bodyArcsInRange arcsInRange trueArcsInRange elementsInRange conditionsInRange spanRefusal dayOf refusalOf isElement withCondition rankOf ranksBefore firstRefusal firstValue secondValue numbersRead mostValues valuesRead conditionRead wordsRead lineRead spanLine isOneLine spanRead spanInput leap monthDays sameDate next dateOn dateOfDay dateBytes dayBytes namedDayBytes daysFrom filtered floorOver reduced table meanLongitude longitudeAt entersOn signEntries signHeading signLine signLines joined
+unfolding isSeparator runLength upTo afterFirst trimmed afterWords sameBytes behindMark smallByte smallFrom placeIn nameAt isDigit allDigits withDigit valueOf isNumber numberRead digitsWithin digitsOf spaced refusalLine threeRead numberOr dateRead dayRead isEdition numbersInRange weekdaysInRange arcInRange bodyArcsInRange arcsInRange trueArcsInRange elementsInRange conditionsInRange spanRefusal dayOf refusalOf isElement withCondition rankOf ranksBefore firstRefusal firstValue secondValue numbersRead mostValues valuesRead conditionRead wordsRead lineRead spanLine isOneLine spanRead spanInput leap monthDays sameDate next dateOn dateOfDay dateBytes dayBytes namedDayBytes daysFrom filtered floorOver reduced table meanLongitude longitudeAt entersOn signEntries signHeading signLine signLines joined
 worked = refl
