@@ -21,16 +21,17 @@ use Rattle.query.specs.Conditions.{numbersInRange, askedInRange, weekdaysInRang
 use Rattle.query.specs.Query.{refusalOf}
 use Rattle.query.proofs.Conditions.{arcs-true, arcs-false, true-arcs-true, true-arcs-false}
 use Rattle.query.proofs.Accepted.{accepted-by}
-use Rattle.text.specs.Lines.{newline}
-use Rattle.values.specs.Values.{mostWeekdays, mostNumbers}
+use Rattle.names.specs.declared.Kind.the-variants.{Weekday}
+use Rattle.values.specs.Values.{mostOf}
 use Rattle.values.proofs.Refusals.{either, OfReading, number-refusal, day-refusal, set-of-refusal, none-refusal}
-use Rattle.words.specs.Words.{firstWord, afterWord, afterWords, pieces, placeIn}
+use Rattle.words.specs.Words.{firstWord, afterWord, afterWords, placeIn}
 use Rattle.page.specs.Names.{keywords}
 use Rattle.page.specs.declared.Values.{Values}
+use Rattle.page.specs.declared.ArcRead.{ArcRead}
 use Rattle.page.specs.declared.LineRead.{LineRead}
 use Rattle.page.specs.declared.Fault.{Fault}
 use Rattle.page.specs.declared.Page.{Page}
-use Rattle.page.specs.Page.{spanKeyword, weekdayKeyword, tithiKeyword, nakshatraKeyword, yogaKeyword, editionKeyword, arcKeywords, karanaKeyword, trueKeywords, keywordCount, isElement, everyDay, withCondition, rankOf, ranksBefore, firstRefusal, firstValue, secondValue, numbersRead, arcRead, secondArcRead, arcsRead, mostValues, valuesRead, unknownWord, manyValues, malformedLine, blankLine, conditionRead, wordsRead, lineRead, firstFault, withFault, withLine, withLines, emptyPage, pageAnswer, pageRead}
+use Rattle.page.specs.Page.{spanKeyword, weekdayKeyword, tithiKeyword, nakshatraKeyword, yogaKeyword, editionKeyword, arcKeywords, karanaKeyword, trueKeywords, keywordCount, isElement, elementOf, everyDay, withCondition, rankOf, ranksBefore, firstRefusal, firstValue, secondValue, numbersRead, arcsRead, arcsIn, mostValues, valuesRead, unknownWord, otherValues, malformedLine, blankLine, refusedAs, conditionRead, wordsRead, lineRead, firstFault, withFault, withLine, withLines, emptyPage, pageAnswer, linesOf, pageRead}
 
 -- a refusal that has a rank
 abbrev pub Ranked : ℕ → Type 0
@@ -73,17 +74,18 @@ second-value-read : (k : ℕ) (w : List ℕ) → OfReading (secondValue k w)
 unfolding secondValue
 second-value-read k w = either OfReading (eqb k spanKeyword) (day-refusal w) (none-refusal w)
 
+arcs-ranked : (a b : ArcRead) (left : List ℕ) → RankedValues (arcsRead a b left)
+unfolding arcsRead
+arcs-ranked a b left = either RankedValues (a .read && (b .read && eqb (length left) 0)) ranked-0 (ranked-all .2)
+
 values-ranked : (k : ℕ) (t : List ℕ) → RankedValues (valuesRead k t)
-unfolding valuesRead arcsRead
+unfolding valuesRead arcsIn
 values-ranked k t =
-    either RankedValues (eqb k weekdayKeyword) (numbers-ranked _ _ (set-of-refusal true mostWeekdays 0 t) (omega arith))
-    (either RankedValues (isElement k) (numbers-ranked _ _ (set-of-refusal false mostNumbers 0 t) (omega arith))
+    either RankedValues (eqb k weekdayKeyword) (numbers-ranked _ _ (set-of-refusal Weekday (mostOf Weekday) 0 t) (omega arith))
+    (either RankedValues (isElement k) (numbers-ranked _ _ (set-of-refusal (elementOf k) (mostOf (elementOf k)) 0 t) (omega arith))
     (either RankedValues (ltb k arcKeywords)
     (numbers-ranked _ _ (first-value-read k (firstWord t)) (second-value-read k (firstWord (afterWord t))))
-    (either RankedValues
-    (arcRead (firstWord t) (firstWord (afterWord t)) .read && secondArcRead (firstWord (afterWords 2 t)) (firstWord (afterWords 3 t)) .read)
-    ranked-0
-    (ranked-all .2))))
+    (arcs-ranked _ _ _)))
 
 query-ranked : (q : Query) → Ranked (refusalOf q)
 unfolding refusalOf
@@ -106,13 +108,10 @@ malformed-sound : (why : ℕ) → SoundLine (malformedLine why)
 malformed-sound why = record { ranked = ranked-all .2; alone = λ r k. absurd (omega arith) }
 
 condition-sound : (k : ℕ) (v : Values) → RankedValues v → SoundLine (conditionRead k v)
-unfolding conditionRead
+unfolding conditionRead refusedAs
 condition-sound k v kv = either SoundLine (eqb (v .refusal) 3) (malformed-sound _) (go (eqb (v .refusal) 0) refl)
   where
-    go :
-        (t : Bool) →
-        eqb (v .refusal) 0 ≡ t →
-        SoundLine (record { refusal = cond t (refusalOf (withCondition everyDay k v)) (v .refusal); reason = 0; keyword = k; values = v })
+    go : (t : Bool) → eqb (v .refusal) 0 ≡ t → SoundLine (refusedAs k v (cond t (refusalOf (withCondition everyDay k v)) (v .refusal)))
     go true e = record { ranked = query-ranked _; alone = λ r _. r }
     go false e = record { ranked = kv; alone = λ r _. absurd (eqb-false _ _ e r) }
 
@@ -124,7 +123,7 @@ words-sound name behind =
     (either SoundLine (leb keywordCount k) (malformed-sound unknownWord)
     (either SoundLine (eqb (length (firstWord (afterWords (mostValues k) behind))) 0)
     (condition-sound k (valuesRead k behind) (values-ranked k behind))
-    (malformed-sound manyValues)))
+    (malformed-sound (otherValues k))))
 
 pub line-read-sound : (l : List ℕ) → SoundLine (lineRead l)
 unfolding lineRead
@@ -369,7 +368,7 @@ empty-sound = record { nine = refl; seven = refl; accepted = λ _. accepted-part
 
 pub accepted-page : (text : List ℕ) → pageRead text .refusal ≡ 0 → refusalOf (pageRead text .query) ≡ 0
 unfolding pageRead pageAnswer
-accepted-page text = go (withLines emptyPage 1 (pieces newline text)) (lines-sound emptyPage 1 (pieces newline text) empty-sound)
+accepted-page text = go (withLines emptyPage 1 (linesOf text)) (lines-sound emptyPage 1 (linesOf text) empty-sound)
   where
     go : (p : Page) → SoundPage p → pageAnswer p .refusal ≡ 0 → refusalOf (pageAnswer p .query) ≡ 0
     go p s = fault (eqb (p .fault .refusal) 0) refl

@@ -2,6 +2,9 @@
 use days::Day;
 use days::NumberAnswer;
 use days::refusal;
+use longitudes::CIRCLE;
+use names::Kind;
+use names::number_of;
 use panchanga::FIRST_EDITION;
 use query::Arc;
 use query::Asked;
@@ -13,9 +16,8 @@ use values::MOST_NUMBERS;
 use values::MOST_WEEKDAYS;
 use values::angle;
 use values::day;
+use values::named_set;
 use values::nothing;
-use values::number_set;
-use values::weekdays;
 use words::after;
 use words::after_word;
 use words::after_words;
@@ -24,12 +26,13 @@ use words::first_word;
 use words::place_in;
 use words::run_length;
 use words::true_place;
+use words::unmarked;
 use words::up_to;
 ghost use mathlib.Core.Path.{_≡_};
-ghost use Prim.Native.Nat.{_<_};
+ghost use Prim.Native.Nat.{_<_, _≤_};
 ghost use Rattle.words.specs.Words.{placeIn};
 ghost use Rattle.page.specs.Names.{keywords};
-ghost use Rattle.page.specs.Page.{keywordCount, isElement, onlySpan, noValues, withCondition, rankOf, ranksBefore, firstRefusal, firstValue, secondValue, numbersRead, arcRead, secondArcRead, arcsRead, mostValues, valuesRead, malformedLine, conditionRead, lineRead, firstFault, withFault, withLine, emptyPage, pageAnswer, pageRead};
+ghost use Rattle.page.specs.Page.{keywordCount, isElement, elementOf, onlySpan, noValues, withCondition, rankOf, ranksBefore, firstRefusal, firstValue, secondValue, numbersRead, arcRead, signArc, widthTo, toArc, isTo, namedArc, arcIn, arcWords, secondArcIn, arcsRead, arcsIn, mostValues, valuesRead, otherValues, malformedLine, refusedAs, conditionRead, lineRead, firstFault, withFault, withLine, emptyPage, pageAnswer, pageRead};
 
 // The words that a line begins with, behind them the names of the bodies, then `karana` and the names of the true
 // places; each is known by its place among them all.
@@ -39,13 +42,13 @@ const KARANA_NAME: [u8; 6] = *b"karana";
 
 pub const SPAN: usize = 0;
 
-const WEEKDAY: usize = 1;
+pub const WEEKDAY: usize = 1;
 
-const TITHI: usize = 2;
+pub const TITHI: usize = 2;
 
-const NAKSHATRA: usize = 3;
+pub const NAKSHATRA: usize = 3;
 
-const YOGA: usize = 4;
+pub const YOGA: usize = 4;
 
 pub const EDITION: usize = 5;
 
@@ -60,10 +63,9 @@ pub const TRUE_ARCS: usize = 16;
 // How many keywords there are.
 pub const KEYWORD_COUNT: usize = 23;
 
-// Why a line is malformed.
+// Why a line is refused, beside the refusal's number; from OTHER_VALUES on, by the keyword's place, that its values are
+// not those that it takes.
 pub const UNKNOWN_WORD: u32 = 1;
-
-pub const MANY_VALUES: u32 = 2;
 
 pub const BAD_VALUE: u32 = 3;
 
@@ -71,8 +73,18 @@ pub const REPEATED_WORD: u32 = 4;
 
 pub const NOT_ENDED: u32 = 5;
 
-// A page that has been read: the refusal's number, or 0, why a line is malformed, the line at fault, counted from 1,
-// and the query. A refusal has a query of all zeros.
+pub const OTHER_VALUES: u32 = 6;
+
+// A tithi may be two words.
+const ELEMENT_WORDS: usize = 2 * MOST_NUMBERS;
+
+// The word between the start and the end of an arc, and the seconds of a sign.
+const TO: [u8; 2] = *b"to";
+
+const SIGN: u32 = 108000;
+
+// A page that has been read: the refusal's number, or 0, why a line is refused, the line at fault, counted from 1, and
+// the query. A refusal has a query of all zeros.
 pub struct PageRead {
     pub refusal: u32,
     pub reason: u32,
@@ -94,6 +106,11 @@ struct ArcRead {
     read: bool,
     arc: Arc,
 }
+
+const NOT_READ: ArcRead = ArcRead {
+    read: false,
+    arc: Arc::NONE,
+};
 
 // A line that has been read: its keyword and its values. A line without a keyword has KEYWORD_COUNT.
 struct LineRead {
@@ -292,32 +309,133 @@ fn read_arc(start: &[u8], width: &[u8]) -> ArcRead
             };
         }
     }
+    NOT_READ
+}
+
+fn sign_arc(sign: u32) -> ArcRead
+    requires { ⌜ sign < 12 ⌝ }
+    ensures { λ r. ⌜ r ≡ signArc sign ⌝ }
+{
     ArcRead {
-        read: false,
-        arc: Arc::NONE,
+        read: true,
+        arc: Arc {
+            given: true,
+            start: SIGN * sign,
+            width: SIGN,
+        },
     }
 }
 
-// A line may have no second arc.
-fn read_second_arc(start: &[u8], width: &[u8]) -> ArcRead
-    ensures { λ r. ⌜ r ≡ secondArcRead (now (start .entry)) (now (width .entry)) ⌝ }
+// The width from a start to an end, which is not in the arc; 0 where there is none.
+fn width_to(start: u32, end: u32) -> u32
+    ensures { λ r. ⌜ r ≡ widthTo start end ⌝ }
 {
-    if start.len() == 0 {
+    if start <= end {
+        if end <= CIRCLE {
+            return end - start;
+        }
+        return 0;
+    }
+    if start < CIRCLE {
+        return end + CIRCLE - start;
+    }
+    0
+}
+
+fn to_arc(start: NumberAnswer, end: NumberAnswer) -> ArcRead
+    ensures { λ r. ⌜ r ≡ toArc start end ⌝ }
+{
+    if start.refusal != refusal::NONE {
+        return NOT_READ;
+    }
+    if end.refusal != refusal::NONE {
+        return NOT_READ;
+    }
+    let from = start.number;
+    let width = width_to(from, end.number);
+    ArcRead {
+        read: true,
+        arc: Arc {
+            given: true,
+            start: from,
+            width,
+        },
+    }
+}
+
+fn is_to(word: &[u8]) -> bool
+    ensures { λ r. ⌜ r ≡ isTo (now (word .entry)) ⌝ }
+{
+    place_in(&TO, word) == 0
+}
+
+// A sign, or a start, `to` and an end, at the front of a text.
+fn named_arc(text: &[u8]) -> ArcRead
+    ensures { λ r. ⌜ r ≡ namedArc (now (text .entry)) ⌝ }
+{
+    let first = first_word(text);
+    let sign = number_of(Kind::Sign, first);
+    if sign.refusal == refusal::NONE {
+        return sign_arc(sign.number);
+    }
+    if is_to(first_word(after_word(text))) {
+        return to_arc(angle(first), angle(first_word(after_words(text, 2))));
+    }
+    NOT_READ
+}
+
+// The arc at the front of a text: a start and a width, or in other words.
+fn arc_in(text: &[u8]) -> ArcRead
+    ensures { λ r. ⌜ r ≡ arcIn (now (text .entry)) ⌝ }
+{
+    let two = read_arc(first_word(text), first_word(after_word(text)));
+    if two.read {
+        return two;
+    }
+    named_arc(text)
+}
+
+// How many words that arc is.
+pub fn arc_words(text: &[u8]) -> usize
+    ensures { λ r. ⌜ r ≡ arcWords (now (text .entry)) ⌝ }
+{
+    let first = first_word(text);
+    let two = read_arc(first, first_word(after_word(text)));
+    if two.read {
+        return 2;
+    }
+    let sign = number_of(Kind::Sign, first);
+    if sign.refusal == refusal::NONE {
+        return 1;
+    }
+    3
+}
+
+// A line may have no second arc.
+fn second_arc_in(text: &[u8]) -> ArcRead
+    ensures { λ r. ⌜ r ≡ secondArcIn (now (text .entry)) ⌝ }
+{
+    let word = first_word(text);
+    if word.len() == 0 {
         return ArcRead {
             read: true,
             arc: Arc::NONE,
         };
     }
-    read_arc(start, width)
+    arc_in(text)
 }
 
-fn both_arcs(first: ArcRead, second: ArcRead) -> Values
-    ensures { λ r. ⌜ r ≡ arcsRead first second ⌝ }
+// Both arcs, and the word behind them, which must be none.
+fn both_arcs(first: ArcRead, second: ArcRead, left: &[u8]) -> Values
+    ensures { λ r. ⌜ r ≡ arcsRead first second (now (left .entry)) ⌝ }
 {
     if !first.read {
         return Values::refused(refusal::BAD_INPUT);
     }
     if !second.read {
+        return Values::refused(refusal::BAD_INPUT);
+    }
+    if left.len() != 0 {
         return Values::refused(refusal::BAD_INPUT);
     }
     let one = first.arc;
@@ -333,6 +451,16 @@ fn both_arcs(first: ArcRead, second: ArcRead) -> Values
     }
 }
 
+fn read_arcs(text: &[u8]) -> Values
+    ensures { λ r. ⌜ r ≡ arcsIn (now (text .entry)) ⌝ }
+{
+    let first = arc_in(text);
+    let more = after_words(text, arc_words(text));
+    let second = second_arc_in(more);
+    let left = first_word(after_words(more, arc_words(more)));
+    both_arcs(first, second, left)
+}
+
 // Whether a keyword's values are a set of numbers.
 fn is_element(keyword: usize) -> bool
     ensures { λ r. ⌜ r ≡ isElement keyword ⌝ }
@@ -346,18 +474,34 @@ fn is_element(keyword: usize) -> bool
     keyword <= YOGA
 }
 
-// The most values that a line may have: those of a set, two, or two arcs of two angles each.
+// What an element's keyword has names of.
+fn element_of(keyword: usize) -> Kind
+    ensures { λ r. ⌜ r ≡ elementOf keyword ⌝ }
+{
+    if keyword == TITHI {
+        return Kind::Tithi;
+    }
+    if keyword == NAKSHATRA {
+        return Kind::Nakshatra;
+    }
+    if keyword == YOGA {
+        return Kind::Yoga;
+    }
+    Kind::Karana
+}
+
+// The most words that a line may have behind its first: those of a set, two, or two arcs of three.
 fn most_values(keyword: usize) -> usize
     ensures { λ r. ⌜ r ≡ mostValues keyword ⌝ }
 {
     if keyword == WEEKDAY {
         MOST_WEEKDAYS
     } else if is_element(keyword) {
-        MOST_NUMBERS
+        ELEMENT_WORDS
     } else if keyword < ARCS {
         2
     } else {
-        4
+        6
     }
 }
 
@@ -365,21 +509,28 @@ fn read_values(keyword: usize, text: &[u8]) -> Values
     ensures { λ r. ⌜ r ≡ valuesRead keyword (now (text .entry)) ⌝ }
 {
     if keyword == WEEKDAY {
-        return numbers(weekdays(text), NumberAnswer::accepted(0));
+        return numbers(named_set(Kind::Weekday, text), NumberAnswer::accepted(0));
     }
     if is_element(keyword) {
-        return numbers(number_set(text), NumberAnswer::accepted(0));
+        return numbers(
+            named_set(element_of(keyword), text),
+            NumberAnswer::accepted(0),
+        );
     }
-    let others = after_word(text);
-    let first = first_word(text);
-    let second = first_word(others);
     if keyword < ARCS {
+        let first = first_word(text);
+        let second = first_word(after_word(text));
         return numbers(first_value(keyword, first), second_value(keyword, second));
     }
-    let more = after_word(others);
-    let one = read_arc(first, second);
-    let other = read_second_arc(first_word(more), first_word(after_word(more)));
-    both_arcs(one, other)
+    read_arcs(text)
+}
+
+// The reason of a line whose values are not those that its keyword takes.
+fn other_values(keyword: usize) -> u32
+    requires { ⌜ keyword < keywordCount ⌝ }
+    ensures { λ r. ⌜ r ≡ otherValues keyword ⌝ }
+{
+    OTHER_VALUES + keyword as u32
 }
 
 fn malformed(reason: u32) -> LineRead
@@ -393,30 +544,41 @@ fn malformed(reason: u32) -> LineRead
     }
 }
 
-fn condition(keyword: usize, values: Values) -> LineRead
+// A condition and a refusal of it, which has a reason where its values are out of range.
+fn refused_as(keyword: usize, values: Values, refused: u32) -> LineRead
     requires { ⌜ keyword < keywordCount ⌝ }
-    ensures { λ r. ⌜ r ≡ conditionRead keyword values ⌝ }
+    ensures { λ r. ⌜ r ≡ refusedAs keyword values refused ⌝ }
 {
-    if values.refusal == refusal::BAD_INPUT {
-        return malformed(BAD_VALUE);
-    }
-    if values.refusal != refusal::NONE {
+    if refused == refusal::BAD_CONDITION {
         return LineRead {
-            refusal: values.refusal,
-            reason: 0,
+            refusal: refused,
+            reason: other_values(keyword),
             keyword,
             values,
         };
     }
-    let every = only_span(FIRST_EDITION, 0, Day::LAST);
-    let alone = with_condition(every, keyword, values);
-    let refused = alone.refusal();
     LineRead {
         refusal: refused,
         reason: 0,
         keyword,
         values,
     }
+}
+
+fn condition(keyword: usize, values: Values) -> LineRead
+    requires { ⌜ keyword < keywordCount ⌝ }
+    ensures { λ r. ⌜ r ≡ conditionRead keyword values ⌝ }
+{
+    if values.refusal == refusal::BAD_INPUT {
+        return malformed(other_values(keyword));
+    }
+    if values.refusal != refusal::NONE {
+        return refused_as(keyword, values, values.refusal);
+    }
+    let every = only_span(FIRST_EDITION, 0, Day::LAST);
+    let alone = with_condition(every, keyword, values);
+    let refused = alone.refusal();
+    refused_as(keyword, values, refused)
 }
 
 // A word's place among the keywords; KEYWORD_COUNT for a word that is none.
@@ -458,7 +620,7 @@ fn read_line(line: &[u8]) -> LineRead
     let values = after_word(body);
     let more = first_word(after_words(values, most_values(keyword)));
     if more.len() != 0 {
-        return malformed(MANY_VALUES);
+        return malformed(other_values(keyword));
     }
     condition(keyword, read_values(keyword, values))
 }
@@ -555,7 +717,7 @@ pub fn read(text: &[u8]) -> PageRead
 {
     let mut page = empty_page();
     let mut number: usize = 1;
-    let mut rest = text;
+    let mut rest = unmarked(text);
     while 0 < rest.len() {
         if run_length(rest, b'\n', false) == rest.len() {
             return page_answer(with_fault(

@@ -12,7 +12,7 @@ use Rattle.page.specs.declared.PageRead.{PageRead}
 use Rattle.page.specs.Page.{onlySpan, ranksBefore, badValue, notEnded, pageRead}
 use Rattle.text.specs.Lines.{newline}
 use Rattle.values.specs.Values.{isRead, dayRead}
-use Rattle.words.specs.Words.{hash, runLength, upTo, afterFirst, firstWord, afterWord}
+use Rattle.words.specs.Words.{hash, runLength, upTo, afterFirst, firstWord, afterWord, unmarked}
 use Rattle.question.specs.declared.FirstLine.{FirstLine}
 use Rattle.question.specs.declared.Question.{Question}
 
@@ -50,6 +50,6 @@ askedBy first page =
     (cond (eqb (page .refusal) accepted) (record { refusal = accepted; reason = 0; line = 0; day = first .day; query = page .query }) (pageFault page))
     (cond (ranksBefore (page .refusal) (first .refusal)) (pageFault page) (noQuestion (first .refusal) (first .reason) 1))
 
--- WHAT A TEXT ASKS
+-- WHAT A TEXT ASKS; it may have a byte order mark in front, and so may the page
 unfoldable pub questionRead : List ℕ → Question
-questionRead text = askedBy (firstLineRead text) (pageRead (afterFirst newline text))
+questionRead text = askedBy (firstLineRead (unmarked text)) (pageRead (afterFirst newline text))

@@ -12,6 +12,7 @@ use words::after;
 use words::after_word;
 use words::first_word;
 use words::run_length;
+use words::unmarked;
 use words::up_to;
 ghost use mathlib.Core.Path.{_≡_};
 ghost use Prim.Native.Nat.{_<_};
@@ -139,7 +140,7 @@ fn together(first: FirstLine, page: PageRead) -> Question
 pub fn read(text: &[u8]) -> Question
     ensures { λ r. ⌜ r ≡ questionRead (now (text .entry)) ⌝ }
 {
-    let first = first_line(text);
+    let first = first_line(unmarked(text));
     let page = page::read(after(text, b'\n'));
     together(first, page)
 }

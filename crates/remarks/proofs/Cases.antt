@@ -9,7 +9,7 @@ use lib.Dec.{eqb, ltb}
 use lib.ListN.{length}
 use Rattle.days.specs.declared.NumberAnswer.{NumberAnswer}
 use Rattle.page.specs.Names.{keywords}
-use Rattle.page.specs.Page.{spanKeyword, editionKeyword, keywordCount}
+use Rattle.page.specs.Page.{spanKeyword, editionKeyword, keywordCount, arcWords}
 use Rattle.text.specs.declared.Line.{Line}
 use Rattle.text.specs.Decimal.{numberRead}
 use Rattle.text.specs.Lines.{emptyLine, contents, Holds}
@@ -62,17 +62,18 @@ module _ (n : ℕ) (name values : List ℕ) (k : ℕ) (ek : k ≡ placeIn keywor
     pub words-arcs :
         (k ≡ spanKeyword → ⊥) →
         hasArcs k ≡ true →
-        (more start2 others2 width2 : List ℕ) →
-        more ≡ afterWord others →
+        (m : ℕ) (more start2 others2 width2 : List ℕ) →
+        m ≡ arcWords values →
+        more ≡ afterWords m values →
         start2 ≡ firstWord more →
         others2 ≡ afterWord more →
         width2 ≡ firstWord others2 →
         Holds a (arcRemark n name start width) →
         Holds b (arcRemark n name start2 width2) →
         SaidOf n name values a b
-    unfolding firstRemark secondRemark afterWords
-    words-arcs e t more start2 others2 width2 em es2 eo2 ew2 ha hb =
-        rw (← ek, ne-eqb k spanKeyword e, t) ((rw (es, ew, eo) at ha), (rw (es2, ew2, eo2, em, eo) at hb))
+    unfolding firstRemark secondRemark
+    words-arcs e t m more start2 others2 width2 en em es2 eo2 ew2 ha hb =
+        rw (← ek, ne-eqb k spanKeyword e, t) ((rw (es, ew, eo) at ha), (rw (es2, ew2, eo2, em, en) at hb))
 
   pub words-none : (k ≡ spanKeyword → ⊥) → hasArcs k ≡ false → a ≡ emptyLine → b ≡ emptyLine → SaidOf n name values a b
   unfolding firstRemark secondRemark

@@ -9,12 +9,12 @@ use lib.Dec.{eqb, ltb}
 use lib.ListN.{length, length-append}
 use borrow.Author.Tests.{ltb-true, ltb-false, le-ltb, ne-eqb}
 use Rattle.page.specs.Names.{keywords}
-use Rattle.page.specs.Page.{spanKeyword, keywordCount, pageRead}
-use Rattle.page.proofs.LineNumbers.{pieces-count}
+use Rattle.page.specs.Page.{spanKeyword, keywordCount, arcWords, linesOf, pageRead}
+use Rattle.page.proofs.LineNumbers.{lines-count}
 use Rattle.page.proofs.Once.{lineKeyword, ofKeyword, keywordLines, few-keywords}
-use Rattle.text.specs.Lines.{newline, lineCapacity}
+use Rattle.text.specs.Lines.{lineCapacity}
 use Rattle.values.proofs.Refusals.{either}
-use Rattle.words.specs.Words.{hash, upTo, firstWord, afterWord, afterWords, pieces, placeIn}
+use Rattle.words.specs.Words.{hash, upTo, firstWord, afterWord, afterWords, placeIn}
 use Rattle.remarks.specs.Remarks.{arcRemark, hasArcs, firstRemark, secondRemark, lineRemarks, linesRemarks, someAsks, nothingAsked, lastRemark, pageRemarks, remarksRoom}
 use Rattle.remarks.proofs.Fitting.{keyword-short, arc-fits, span-fits}
 
@@ -36,7 +36,9 @@ module _ (n : ℕ) (few : n < 100000000000000000000) where
 
     second-short : (values : List ℕ) → length (secondRemark n name values) ≤ lineCapacity
     unfolding secondRemark
-    second-short values = or-arc (hasArcs (placeIn keywords name)) (firstWord (afterWords 2 values)) (firstWord (afterWords 3 values))
+    second-short values =
+        let more : List ℕ = afterWords (arcWords values) values in
+        or-arc (hasArcs (placeIn keywords name)) (firstWord more) (firstWord (afterWord more))
 
     words-short : (values : List ℕ) → length (firstRemark n name values ++ secondRemark n name values) ≤ 2 * lineCapacity
     words-short values = omega (arith, length-append (firstRemark n name values) (secondRemark n name values), first-short values, second-short values)
@@ -71,7 +73,7 @@ pub remarks-fit :
     (n : ℕ) (text : List ℕ) →
     pageRead text .refusal ≡ 0 →
     n + length text < 100000000000000000000 →
-    length (pageRemarks n (pieces newline text)) ≤ remarksRoom
+    length (pageRemarks n (linesOf text)) ≤ remarksRoom
 remarks-fit n text accepted few =
-    let lines = lines-room n (pieces newline text) (omega (arith, pieces-count text .1)) in
-    simp length-append (omega (arith, lines, few-keywords text accepted, last-short (someAsks (pieces newline text))))
+    let lines = lines-room n (linesOf text) (omega (arith, lines-count text)) in
+    simp length-append (omega (arith, lines, few-keywords text accepted, last-short (someAsks (linesOf text))))

@@ -11,12 +11,11 @@ use Rattle.days.specs.declared.NumberAnswer.{NumberAnswer}
 use Rattle.days.specs.Refusals.{accepted}
 use Rattle.longitudes.specs.Longitudes.{circle}
 use Rattle.page.specs.Names.{keywords}
-use Rattle.page.specs.Page.{spanKeyword, editionKeyword, arcKeywords, karanaKeyword, keywordCount, pageRead}
+use Rattle.page.specs.Page.{spanKeyword, editionKeyword, arcKeywords, karanaKeyword, keywordCount, arcWords, linesOf, pageRead}
 use Rattle.text.specs.Ascii.{ascii}
 use Rattle.text.specs.Decimal.{digitsOf, numberRead}
-use Rattle.text.specs.Lines.{newline}
 use Rattle.values.specs.Values.{isRead, angleRead}
-use Rattle.words.specs.Words.{hash, upTo, firstWord, afterWord, afterWords, pieces, placeIn}
+use Rattle.words.specs.Words.{hash, upTo, firstWord, afterWord, afterWords, placeIn}
 
 -- which line is meant
 unfoldable pub lineText : ℕ → List ℕ
@@ -62,7 +61,7 @@ likelyEnd start width = leb 36000 start && (ltb start circle && (ltb start width
 unfoldable pub likelyYear : ℕ → Bool
 likelyYear n = leb 1000 n && leb n 2619
 
--- what is said of an arc, by its two words; nothing where it is likely to be meant so
+-- what is said of an arc, by its first two words; nothing where it is likely to be meant so, or is a sign or has an end
 unfoldable pub arcRemark : ℕ → List ℕ → List ℕ → List ℕ → List ℕ
 arcRemark n name start width =
     cond (likelyDegrees (numberRead start) (numberRead width)) (secondsText n name (numberRead start .number) (numberRead width .number))
@@ -86,7 +85,8 @@ firstRemark n name values =
 
 unfoldable pub secondRemark : ℕ → List ℕ → List ℕ → List ℕ
 secondRemark n name values =
-    cond (hasArcs (placeIn keywords name)) (arcRemark n name (firstWord (afterWords 2 values)) (firstWord (afterWords 3 values))) []
+    let more : List ℕ = afterWords (arcWords values) values in
+    cond (hasArcs (placeIn keywords name)) (arcRemark n name (firstWord more) (firstWord (afterWord more))) []
 
 -- a `#` starts a comment
 unfoldable pub lineRemarks : ℕ → List ℕ → List ℕ
@@ -123,7 +123,7 @@ pageRemarks n ls = linesRemarks n ls ++ lastRemark (someAsks ls)
 
 -- ALL THAT IS SAID of a text whose first line is the nth: nothing where it is refused
 unfoldable pub remarksOf : ℕ → List ℕ → List ℕ
-remarksOf n text = cond (eqb (pageRead text .refusal) accepted) (pageRemarks n (pieces newline text)) []
+remarksOf n text = cond (eqb (pageRead text .refusal) accepted) (pageRemarks n (linesOf text)) []
 
 -- the bytes that there is room for
 abbrev pub remarksRoom : ℕ

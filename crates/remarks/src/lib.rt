@@ -10,7 +10,9 @@ use text::read_decimal;
 use values::angle;
 use words::after;
 use words::after_word;
+use words::after_words;
 use words::first_word;
+use words::unmarked;
 use words::up_to;
 ghost use mathlib.Core.Path.{_≡_};
 ghost use mathlib.Core.Bool.{_||_};
@@ -190,7 +192,7 @@ fn of_words(number: usize, name: &[u8], values: &[u8]) -> Remarks
         let second = Line::empty();
         return Remarks { first, second };
     }
-    let more = after_word(others);
+    let more = after_words(values, page::arc_words(values));
     let first = arc_remark(number, name, start, width);
     let second = arc_remark(number, name, first_word(more), first_word(after_word(more)));
     Remarks { first, second }
@@ -251,7 +253,7 @@ fn put_all(text: &[u8], first: u32, buffer: &mut [u8]) -> usize
     let mut number = first as usize;
     let mut at: usize = 0;
     let mut asked = false;
-    let mut rest = text;
+    let mut rest = unmarked(text);
     while 0 < rest.len() {
         let line = up_to(rest, b'\n');
         at = put_line(number, line, buffer, at);

@@ -10,7 +10,7 @@ use Rattle.days.specs.Days.{daysFrom, spanRefusal, dayOf}
 use Rattle.entries.specs.Runs.{filtered}
 use Rattle.integers.specs.Integers.{floorOver, reduced}
 use Rattle.longitudes.specs.Longitudes.{table, meanLongitude, longitudeAt}
-use Rattle.page.specs.Page.{isElement, withCondition, rankOf, ranksBefore, firstRefusal, firstValue, secondValue, numbersRead, mostValues, valuesRead, conditionRead, wordsRead, lineRead}
+use Rattle.page.specs.Page.{isElement, withCondition, rankOf, ranksBefore, firstRefusal, firstValue, secondValue, numbersRead, mostValues, valuesRead, refusedAs, conditionRead, wordsRead, lineRead}
 use Rattle.panchanga.specs.TrueLongitudes.{isEdition}
 use Rattle.query.specs.Conditions.{numbersInRange, weekdaysInRange, arcInRange, bodyArcsInRange, arcsInRange, trueArcsInRange, elementsInRange, conditionsInRange}
 use Rattle.query.specs.Query.{refusalOf}
@@ -40,5 +40,5 @@ pub worked :
     ∷ ascii "refused 2\n"
     ∷ ascii "refused 3\n"
     ∷ []
-unfolding isSeparator runLength upTo afterFirst trimmed afterWords sameBytes behindMark smallByte smallFrom placeIn nameAt isDigit allDigits withDigit valueOf isNumber numberRead digitsWithin digitsOf spaced refusalLine threeRead numberOr dateRead dayRead isEdition numbersInRange weekdaysInRange arcInRange bodyArcsInRange arcsInRange trueArcsInRange elementsInRange conditionsInRange spanRefusal dayOf refusalOf isElement withCondition rankOf ranksBefore firstRefusal firstValue secondValue numbersRead mostValues valuesRead conditionRead wordsRead lineRead spanLine isOneLine spanRead spanInput leap monthDays sameDate next dateOn dateOfDay dateBytes dayBytes namedDayBytes daysFrom filtered floorOver reduced table meanLongitude longitudeAt entersOn signEntries signHeading signLine signLines joined
+unfolding isSeparator runLength upTo afterFirst trimmed afterWords sameBytes behindMark smallByte smallFrom placeIn nameAt isDigit allDigits withDigit valueOf isNumber numberRead digitsWithin digitsOf spaced refusalLine threeRead numberOr dateRead dayRead isEdition numbersInRange weekdaysInRange arcInRange bodyArcsInRange arcsInRange trueArcsInRange elementsInRange conditionsInRange spanRefusal dayOf refusalOf isElement withCondition rankOf ranksBefore firstRefusal firstValue secondValue numbersRead mostValues valuesRead refusedAs conditionRead wordsRead lineRead spanLine isOneLine spanRead spanInput leap monthDays sameDate next dateOn dateOfDay dateBytes dayBytes namedDayBytes daysFrom filtered floorOver reduced table meanLongitude longitudeAt entersOn signEntries signHeading signLine signLines joined
 worked = refl
