@@ -2,8 +2,8 @@
 //! condition on each line, and the edition that it names by paper 02's L8, with L9's sets of weekdays
 //! and second arcs and P1's sets of limbs and arcs of true places.
 //!
-//! `#` starts a comment up to the line's end; space, tab and carriage return separate words. A line
-//! without words says nothing. Another line is a word and its values, and no word may stand twice:
+//! `#` starts a comment up to the line's end; space, tab, carriage return and, by P3, a comma separate
+//! words. A line without words says nothing. Another line is a word and its values, and no word may stand twice:
 //!
 //! - `span FROM TO`: day numbers or dates YEAR-MONTH-DAY; without it, all days of the table;
 //! - `edition`: a number; without it, 1;
@@ -214,7 +214,7 @@ fn set(word: &str) -> Option<usize> {
 
 pub fn words(line: &str) -> Vec<&str> {
     let before_comment = line.split('#').next().unwrap_or("");
-    let pieces = before_comment.split([' ', '\t', '\r']);
+    let pieces = before_comment.split([' ', '\t', '\r', ',']);
     pieces.filter(|word| !word.is_empty()).collect()
 }
 
@@ -405,12 +405,16 @@ pub fn printed(almanac: &Almanac, page: &[u8]) -> Printed {
     if page.len() >= TOO_LONG {
         return Printed::too_long();
     }
-    let page = letters(page);
-    match read(almanac, &page) {
+    of_text(almanac, &letters(page))
+}
+
+/// All that the program writes for a page that isn't too long.
+pub fn of_text(almanac: &Almanac, page: &str) -> Printed {
+    match read(almanac, page) {
         Ok(query) => {
             let found = query.hastened_search(almanac);
             let found = found.expect("all lines are well-formed");
-            let remarks = remarks(almanac, &page, 1);
+            let remarks = remarks(almanac, page, 1);
             Printed::accepted(catalogue::text(almanac, &found), remarks)
         }
         Err(fault_at) => Printed::at_fault(fault_at),

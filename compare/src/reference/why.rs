@@ -74,7 +74,11 @@ pub fn printed(almanac: &Almanac, text: &[u8]) -> Printed {
     if text.len() >= TOO_LONG {
         return Printed::too_long();
     }
-    let text = letters(text);
+    of_text(almanac, &letters(text))
+}
+
+/// All that the program writes for a text that isn't too long.
+pub fn of_text(almanac: &Almanac, text: &str) -> Printed {
     let first_line = text.split_inclusive('\n').next().unwrap_or("");
     let page = &text[first_line.len()..];
     match (day_in(almanac, first_line), read(almanac, page)) {

@@ -1,0 +1,149 @@
+//! P3: the programs `find` and `why`, on pages in every mixture of forms and on the same pages without them,
+//! on each name, on words that are all but names, and on damaged pages.
+
+use std::collections::HashMap;
+
+use crate::checks::Checks;
+use crate::random::Random;
+use crate::reference::almanac::Almanac;
+use crate::reference::forms::Forms;
+use crate::reference::page::{Complaint, Printed};
+
+use super::form_text::*;
+use super::page_text::damage;
+use super::programs::{self, shown, Written};
+
+/// A program, and what it has to write for a text.
+#[derive(Clone, Copy)]
+struct Program {
+    path: &'static str,
+    printed: fn(&Forms, &Almanac, &[u8]) -> Printed,
+}
+
+const FIND: Program = Program {
+    path: "target/bin/find",
+    printed: Forms::find,
+};
+
+const WHY: Program = Program {
+    path: "target/bin/why",
+    printed: Forms::why,
+};
+
+struct Programs<'a> {
+    almanac: &'a Almanac,
+    settled: Forms,
+    open: Forms,
+    /// What came of plain pages.
+    plain: HashMap<Vec<u8>, String>,
+}
+
+/// Standard error: the remarks, or one line about the right line of the page. In which words, the parts for
+/// pages compare.
+fn hold_error(checks: &mut Checks, input: impl Fn() -> String, complaint: Complaint, error: &str) {
+    let about = match complaint {
+        Complaint::Remarks(said) => {
+            return checks.same_lines("its standard error", input, &said, error);
+        }
+        Complaint::OfLine(number, _) => format!("line {number}: "),
+        Complaint::OfPage => String::new(),
+    };
+    let came = String::from_iter(error.chars().take(about.len()));
+    checks.same("what its standard error is about", &input, about, came);
+    let one_line = error.ends_with('\n') && error.lines().count() == 1;
+    checks.same("its standard error is one line", input, true, one_line);
+}
+
+impl Programs<'_> {
+    /// What has to be written for a text: as it is read by what is settled and, where that differs, with what
+    /// is open.
+    fn expected(&self, program: Program, text: &[u8]) -> Vec<Printed> {
+        let [settled, open] = [&self.settled, &self.open].map(|forms| forms.plain(text).text);
+        let mut readings = vec![&self.settled];
+        if settled != open {
+            readings.push(&self.open);
+        }
+        let printed = readings.into_iter();
+        printed
+            .map(|forms| (program.printed)(forms, self.almanac, text))
+            .collect()
+    }
+
+    /// Runs a program on a text, and gives back what it printed.
+    fn hold(&self, checks: &mut Checks, program: Program, text: &[u8]) -> String {
+        let input = || shown(text);
+        let Written { output, error, .. } = programs::run(checks, program.path, input, &[text]);
+        let mut expected = self.expected(program, text);
+        let at = expected.iter().position(|printed| printed.output == output);
+        let expected = expected.swap_remove(at.unwrap_or(0));
+        checks.same_lines(program.path, input, &expected.output, &output);
+        hold_error(checks, input, expected.complaint, &error);
+        output
+    }
+
+    /// A text in forms and the same without them: the program prints the same.
+    fn hold_both(&mut self, checks: &mut Checks, program: Program, form: &[u8], plain: Vec<u8>) {
+        let by_form = self.hold(checks, program, form);
+        let by_plain = self.plain.entry(plain).or_insert_with_key(|plain| {
+            programs::run(checks, program.path, || shown(plain), &[plain]).output
+        });
+        checks.same_lines("its plain form", || shown(form), by_plain, &by_form);
+    }
+
+    fn find(&mut self, checks: &mut Checks, case: &Case) {
+        self.hold_both(checks, FIND, &case.form, case.plain.clone());
+    }
+
+    /// With a day before the page.
+    fn why(&mut self, checks: &mut Checks, day: &str, case: &Case) {
+        let mark = "\u{feff}".as_bytes();
+        let (in_front, page) = match case.form.strip_prefix(mark) {
+            Some(page) => (mark, page),
+            None => (&b""[..], &case.form[..]),
+        };
+        let form = [in_front, day.as_bytes(), b",\n", page].concat();
+        let plain = [day.as_bytes(), b"\n", &case.plain].concat();
+        self.hold_both(checks, WHY, &form, plain);
+    }
+}
+
+pub fn run(checks: &mut Checks, almanac: &Almanac) {
+    let open = Forms::of_document().clone();
+    let mut programs = Programs {
+        almanac,
+        settled: open.settled(),
+        open,
+        plain: HashMap::new(),
+    };
+    let names = &programs.settled.names.clone();
+    let mut random = Random::from_seed();
+    for case in worked().iter().chain(&every_name(names)) {
+        programs.find(checks, case);
+    }
+    for (form, plain) in OPEN {
+        let page = one_line(SPAN, form, plain).form;
+        programs.hold(checks, FIND, &page);
+    }
+    for line in all_but_names(&mut random, names) {
+        programs.hold(checks, FIND, &with_span(&line));
+    }
+    for (day, case) in ends(almanac) {
+        programs.find(checks, &case);
+        programs.why(checks, &day, &case);
+    }
+    for (day, case) in drawn(checks, almanac, names) {
+        programs.find(checks, &case);
+        programs.why(checks, &day, &case);
+        let mut damaged = case.form;
+        for _ in 0..random.between(1, 3) {
+            damage(&mut random, &mut damaged);
+        }
+        programs.hold(checks, FIND, &damaged);
+        if random.once_in(3) {
+            let mut text = Vec::new();
+            put_line(&mut random, &mut text, &vec![day]);
+            text.extend(damaged);
+            programs.hold(checks, WHY, &text);
+        }
+    }
+}
