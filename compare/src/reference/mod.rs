@@ -7,7 +7,8 @@
 //! `catalogue`, what `engraving` prints in `plate`, what `month` prints in `month`, what `why`
 //! reads and prints in `why`, what both say of a page that is likely to be meant otherwise in
 //! `remarks`, what `lunar_month` does in `month_starts`, and what `signs` and `drift` read in
-//! `span`, and print in `signs` and `drift`.
+//! `span`, and print in `signs` and `drift`. P3's names are read out of the document in `names`, and
+//! texts in its forms are turned plain in `forms`.
 
 pub mod almanac;
 pub mod almanac_file;

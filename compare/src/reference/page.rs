@@ -21,6 +21,7 @@ use super::almanac::Almanac;
 use super::catalogue::{self, WEEKDAYS};
 use super::civil::Date;
 use super::days::LAST_DAY;
+use super::forms::Forms;
 use super::refusal::{
     Answer, BAD_CONDITION, BAD_INPUT, LAST_BEFORE_FIRST, NO_SUCH_DATE, NO_SUCH_EDITION,
     OUT_OF_RANGE,
@@ -402,13 +403,10 @@ pub fn letters(page: &[u8]) -> String {
 
 /// All that the program writes for a page.
 pub fn printed(almanac: &Almanac, page: &[u8]) -> Printed {
-    if page.len() >= TOO_LONG {
-        return Printed::too_long();
-    }
-    of_text(almanac, &letters(page))
+    Forms::of_document().find(almanac, page)
 }
 
-/// All that the program writes for a page that isn't too long.
+/// All that the program writes for a page without P3's forms that isn't too long.
 pub fn of_text(almanac: &Almanac, page: &str) -> Printed {
     match read(almanac, page) {
         Ok(query) => {

@@ -6,9 +6,10 @@
 use super::almanac::Almanac;
 use super::catalogue::{named, WEEKDAYS};
 use super::edition::Edition;
+use super::forms::Forms;
 use super::page::{
-    end, gravest, in_degrees, letters, read, without_newline, words, Fault, Printed, BODIES,
-    OTHER_VALUES, SETS, TOO_LONG,
+    end, gravest, in_degrees, read, without_newline, words, Fault, Printed, BODIES, OTHER_VALUES,
+    SETS,
 };
 use super::reasons::{why, Asked, Reason, Why};
 use super::refusal::BAD_INPUT;
@@ -71,13 +72,10 @@ fn day_in(almanac: &Almanac, line: &str) -> Result<u32, Fault> {
 
 /// All that the program writes for a text.
 pub fn printed(almanac: &Almanac, text: &[u8]) -> Printed {
-    if text.len() >= TOO_LONG {
-        return Printed::too_long();
-    }
-    of_text(almanac, &letters(text))
+    Forms::of_document().why(almanac, text)
 }
 
-/// All that the program writes for a text that isn't too long.
+/// All that the program writes for a text without P3's forms that isn't too long.
 pub fn of_text(almanac: &Almanac, text: &str) -> Printed {
     let first_line = text.split_inclusive('\n').next().unwrap_or("");
     let page = &text[first_line.len()..];
