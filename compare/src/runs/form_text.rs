@@ -556,8 +556,7 @@ pub fn worked() -> Vec<Case> {
     cases
 }
 
-/// Words that are all but names: of other lists; in both spellings at once; with letters left out, doubled or put
-/// behind; with marks behind their letters; with other marks and other bytes. Some are names all the same.
+/// Lines with words that are all but names: of other lists, and misspelled. Some are names all the same.
 pub fn all_but_names(random: &mut Random, names: &Names) -> Vec<Vec<u8>> {
     let mut lines: Vec<Vec<u8>> = REFUSED
         .iter()
@@ -584,6 +583,11 @@ pub fn all_but_names(random: &mut Random, names: &Names) -> Vec<Vec<u8>> {
             }
         }
     }
+    for half in names.halves.iter().flat_map(|half| &half.spellings) {
+        for damaged in misspelled(random, half) {
+            add("tithi", &[&damaged, &b" 5"[..]].concat());
+        }
+    }
     lines
 }
 
@@ -602,37 +606,31 @@ const MARKED: [(char, &str, char); 11] = [
     ('ṣ', "s\u{323}", 'ṡ'),
 ];
 
+/// Of a marked letter: its plain letter, the mark behind that, another mark, its last byte left out, and others
+/// in its place; and of any letter: left out, doubled, and all from it on left out; or one put behind.
 fn misspelled(random: &mut Random, name: &str) -> Vec<Vec<u8>> {
     let mut words: Vec<Vec<u8>> = Vec::new();
     let mut letters: Vec<char> = name.chars().collect();
-    let marked: Vec<usize> = (0..letters.len())
-        .filter(|at| !letters[*at].is_ascii())
-        .collect();
+    let places = 0..letters.len();
+    let marked: Vec<usize> = places.filter(|at| !letters[*at].is_ascii()).collect();
     if !marked.is_empty() {
         let at = random.one_of(&marked);
-        let (before, behind) = (
-            String::from_iter(&letters[..at]),
-            String::from_iter(&letters[at + 1..]),
-        );
+        let [before, behind] = [&letters[..at], &letters[at + 1..]].map(String::from_iter);
         let letter = MARKED.iter().find(|(letter, _, _)| *letter == letters[at]);
         let (letter, apart, other) = letter.expect("a marked letter");
-        let without = without_marks(&letter.to_string());
-        for instead in [&without[..], *apart, &other.to_string()] {
-            words.push(format!("{before}{instead}{behind}").into_bytes());
+        let (letter, other) = (letter.to_string(), other.to_string());
+        let first = &letter.as_bytes()[..letter.len() - 1];
+        let last = random.between(0x80, 0xBF) as u8;
+        for instead in [
+            without_marks(&letter).as_bytes(),
+            apart.as_bytes(),
+            other.as_bytes(),
+            first,
+            &[first, &[last]].concat(),
+            &[first, b"A"].concat(),
+        ] {
+            words.push([before.as_bytes(), instead, behind.as_bytes()].concat());
         }
-        // The letter with its last byte left out, and with another.
-        let whole = format!("{before}{letter}");
-        let first = &whole.as_bytes()[..whole.len() - 1];
-        words.push([first, behind.as_bytes()].concat());
-        words.push(
-            [
-                first,
-                &[random.between(0x80, 0xBF) as u8],
-                behind.as_bytes(),
-            ]
-            .concat(),
-        );
-        words.push([first, b"A", behind.as_bytes()].concat());
     }
     let at = random.below(letters.len() as u32) as usize;
     match random.below(4) {
@@ -707,4 +705,68 @@ pub fn ends(almanac: &Almanac) -> Vec<(String, Case)> {
         }
     }
     cases
+}
+
+/// All names of each list on one line, in either spelling; and with one of them once more, which is refused in
+/// both forms.
+pub fn whole_lists(names: &Names) -> Vec<Case> {
+    let mut cases = Vec::new();
+    for set in SETS {
+        let list = names.list(set);
+        let numbers: Vec<String> = list.iter().map(|name| name.number.to_string()).collect();
+        for at in 0..2 {
+            let names: Vec<&str> = list.iter().map(|name| &name.spellings[at][..]).collect();
+            let [form, plain] = [names.join(", "), numbers.join(" ")];
+            let [form, plain] = [form, plain].map(|values| format!("{set} {values}"));
+            cases.push(one_line(SPAN, &form, &plain));
+            let again = |line: &str, value: &str| format!("{line} {value}");
+            let [form, plain] = [again(&form, names[3]), again(&plain, &numbers[3])];
+            cases.push(one_line(SPAN, &form, &plain));
+        }
+    }
+    cases
+}
+
+/// Words that mean something in P3's forms, and some that are beside it.
+const WORDS: [&str; 20] = [
+    "to",
+    "TO",
+    "shukla",
+    "krishna",
+    "śukla",
+    "Kṛṣṇa",
+    "purnima",
+    "mesha",
+    "mīna",
+    "vishakha",
+    "bava",
+    "mon",
+    "0",
+    "5",
+    "15",
+    "16",
+    "34:13",
+    "35:0:0",
+    "360:0",
+    "360:0:1",
+];
+
+/// Leaves out a word of a line, doubles it, puts another before it or in its place, or exchanges it with the next.
+pub fn shake(random: &mut Random, page: &mut Vec<u8>) {
+    let mut lines: Vec<Vec<u8>> = page.split(|byte| *byte == b'\n').map(Vec::from).collect();
+    let at = random.below(lines.len() as u32) as usize;
+    let words = lines[at].split(|byte| *byte == b' ');
+    let mut words: Vec<Vec<u8>> = words.map(Vec::from).collect();
+    let count = words.len();
+    let place = random.below(count as u32) as usize;
+    let other = random.one_of(&WORDS).as_bytes().to_vec();
+    match random.below(5) {
+        0 => drop(words.remove(place)),
+        1 => words.insert(place, words[place].clone()),
+        2 => words.insert(place, other),
+        3 => words[place] = other,
+        _ => words.swap(place, (place + 1) % count),
+    }
+    lines[at] = words.join(&b" "[..]);
+    *page = lines.join(&b"\n"[..]);
 }

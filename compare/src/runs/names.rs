@@ -269,7 +269,7 @@ pub fn run(checks: &mut Checks, almanac: &Almanac) {
     for forms in [&settled, open] {
         refused_forms(checks, almanac, forms);
     }
-    let mut cases = [worked(), every_name(names)].concat();
+    let mut cases = [worked(), every_name(names), whole_lists(names)].concat();
     let drawn = [ends(almanac), drawn(checks, almanac, names)].concat();
     cases.extend(drawn.into_iter().map(|(_, case)| case));
     for case in &cases {
