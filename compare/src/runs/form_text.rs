@@ -269,7 +269,7 @@ fn number(random: &mut Random, number: u32) -> String {
     format!("{number:0width$}")
 }
 
-fn name_of(names: &[Name], number: u32) -> &Name {
+pub fn name_of(names: &[Name], number: u32) -> &Name {
     let name = names.iter().find(|name| name.number == number);
     name.expect("each number has a name")
 }

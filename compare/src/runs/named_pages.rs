@@ -115,6 +115,14 @@ impl Programs<'_> {
     }
 }
 
+/// The message that the issue has itself.
+fn message(checks: &mut Checks) {
+    let page = b"tithi 14\nweekday moonday\n";
+    let written = programs::run(checks, FIND.path, || shown(page), &[page]);
+    let due = "line 2: weekday takes one to seven of monday to sunday or 0 to 6\n";
+    checks.same_lines("the issue's message", || shown(page), due, &written.error);
+}
+
 /// Marks in front, twice, cut and elsewhere; and letters and marks that come in pieces.
 fn odd(checks: &mut Checks, programs: &Programs) {
     let pages: [&[u8]; 12] = [
@@ -171,6 +179,7 @@ pub fn run(checks: &mut Checks, almanac: &Almanac) {
         programs.hold(checks, FIND, &with_span(&line));
     }
     odd(checks, &programs);
+    message(checks);
     for (day, case) in ends(almanac) {
         programs.find(checks, &case);
         programs.why(checks, &day, &case);

@@ -5,7 +5,7 @@ use crate::checks::Checks;
 use crate::random::Random;
 use crate::reference::almanac::Almanac;
 use crate::reference::forms::Forms;
-use crate::reference::names::{without_marks, Name, Names, LISTS};
+use crate::reference::names::{without_marks, Half, Name, Names, LISTS};
 use crate::reference::page::{letters, read};
 
 use super::form_text::*;
@@ -42,86 +42,65 @@ const NAMED: [(&str, u32, &str); 27] = [
     ("weekday", 6, "sun"),
 ];
 
-/// "Each with a number from its place"; "names differ from one another in their list"; and what docs/find.md says
-/// of their spellings.
-fn tables(checks: &mut Checks, names: &Names) {
+/// "Each with a number from its place"; "names differ from one another in their list"; and the rule that
+/// docs/find.md has for their spellings.
+fn lists(checks: &mut Checks, names: &Names) {
     for ((list, least, count), entries) in LISTS.into_iter().zip(&names.lists) {
-        let input = || list.to_string();
         let mut numbers: Vec<u32> = entries.iter().map(|name| name.number).collect();
         numbers.sort();
         let due: Vec<u32> = (least..).take(count).collect();
-        checks.same("each number once", input, due, numbers);
+        checks.same("each number once", || list.to_string(), due, numbers);
         for name in entries {
             let input = || format!("{list} {name:?}");
             let [plain, other] = &name.spellings;
             let is_plain = |letter: char| letter.is_ascii_lowercase() || letter == '-';
             checks.same("plain letters", input, true, plain.chars().all(is_plain));
-            let by_rule = match list {
+            let due = match list {
                 "weekday" => plain[..3] == *other,
                 _ => without_marks(other) == *plain,
             };
-            checks.same("the spellings' rule", input, true, by_rule);
+            checks.same("the spellings' rule", input, true, due);
             let alike =
-                |name: &&Name| name.spellings.contains(plain) || name.spellings.contains(other);
-            checks.same(
-                "no other is spelled so",
-                input,
-                1,
-                entries.iter().filter(alike).count(),
-            );
+                |own: &&Name| own.spellings.contains(plain) || own.spellings.contains(other);
+            let times = entries.iter().filter(alike).count();
+            checks.same("no other is spelled so", input, 1, times);
         }
     }
     for (list, number, name) in NAMED {
-        let of_number = names.list(list).iter().find(|own| own.number == number);
-        let so_named = of_number.is_some_and(|own| own.spellings.iter().any(|one| one == name));
-        checks.same(
-            "the issue's names",
-            || format!("{list} {number} {name}"),
-            true,
-            so_named,
-        );
+        let spellings = &name_of(names.list(list), number).spellings;
+        let so_named = spellings.iter().any(|spelling| spelling == name);
+        let input = || format!("{list} {number} {name}");
+        checks.same("the issue's names", input, true, so_named);
     }
-    let thirties: Vec<u32> = (0..12).map(|sign| 30 * sign).collect();
-    checks.same(
-        "where signs begin",
-        || "signs".to_string(),
-        thirties,
-        names.begins.clone(),
-    );
-    let halves: Vec<(u32, &str)> = names
-        .halves
-        .iter()
+}
+
+/// "Signs, 30° each from 0° on"; and of the tithis, that the two halves of the month have the same names but for
+/// the half's, and for the last one's.
+fn signs_and_halves(checks: &mut Checks, names: &Names) {
+    let due: Vec<u32> = (0..12).map(|sign| 30 * sign).collect();
+    let input = || "the signs' table".to_string();
+    checks.same("where signs begin", input, due, names.begins.clone());
+    let input = || "the tithis' table".to_string();
+    let halves = names.halves.iter();
+    let halves: Vec<(u32, &str)> = halves
         .map(|half| (half.number, &half.spellings[0][..]))
         .collect();
-    checks.same(
-        "the halves of a month",
-        || "tithis".to_string(),
-        vec![(0, "shukla"), (15, "krishna")],
-        halves,
-    );
-    for (tithi, half) in (0..30).map(|tithi| (tithi, &names.halves[tithi / 15])) {
-        for at in 0..2 {
-            let own = |tithi: usize| {
-                &names
-                    .list("tithi")
-                    .iter()
-                    .find(|name| name.number as usize == tithi)
-                    .expect("a tithi")
-                    .spellings[at]
-            };
-            let of_half = own(tithi).strip_prefix(&format!("{}-", half.spellings[at]));
-            let other = own((tithi + 15) % 30);
-            let alike = match of_half {
-                Some(rest) => other.ends_with(&format!("-{rest}")),
-                None => tithi % 15 == 14 && !other.contains('-'),
-            };
-            checks.same(
-                "a tithi's name in its half",
-                || format!("tithi {tithi}, {other}"),
-                true,
-                alike,
-            );
-        }
+    let due = vec![(0, "shukla"), (15, "krishna")];
+    checks.same("the halves of a month", input, due, halves);
+    let tithis = names.list("tithi");
+    for (which, at) in (0..15).flat_map(|which| [(which, 0), (which, 1)]) {
+        let in_half = |half: &Half| {
+            let name = &name_of(tithis, half.number + which).spellings[at];
+            name.strip_prefix(&format!("{}-", half.spellings[at]))
+        };
+        let [bright, dark] = [&names.halves[0], &names.halves[1]].map(in_half);
+        checks.same("a tithi of each half", || which.to_string(), bright, dark);
+        checks.same(
+            "the last has its own",
+            || which.to_string(),
+            which == 14,
+            bright.is_none(),
+        );
     }
 }
 
@@ -178,55 +157,48 @@ const WRONG_LETTERS: [(&str, fn(&[u8], &str) -> bool); 4] = [
 /// Readings that have one rule wrong.
 fn wrong_readings(right: &Forms) -> Vec<(String, Forms)> {
     let mut wrong = Vec::new();
-    let mut add = |what: String, change: &dyn Fn(&mut Forms)| {
+    let mut add = |what: &str, change: &dyn Fn(&mut Forms)| {
         let mut forms = right.clone();
         change(&mut forms);
-        wrong.push((what, forms));
+        wrong.push((what.to_string(), forms));
     };
     for (list, (name, least, count)) in LISTS.into_iter().enumerate().take(6) {
-        for at in 0..count {
+        for (at, spelling) in (0..count).flat_map(|at| [(at, 0), (at, 1)]) {
             let next = (at + 1) % count;
-            for spelling in 0..2 {
-                add(format!("{name} {at} one place off"), &|forms| {
-                    let names = &mut forms.names.lists[list];
-                    let [own, others] = [at, next].map(|at| names[at].spellings[spelling].clone());
-                    names[at].spellings[spelling] = others;
-                    names[next].spellings[spelling] = own;
-                });
-                add(format!("{name} {at} and the next alike"), &|forms| {
-                    let names = &mut forms.names.lists[list];
-                    names[at].spellings[spelling] = names[next].spellings[spelling].clone();
-                });
-            }
+            let spellings = |forms: &Forms| {
+                let names = &forms.names.lists[list];
+                [at, next].map(|at| names[at].spellings[spelling].clone())
+            };
+            add(&format!("{name} {at} one place off"), &|forms| {
+                let [own, others] = spellings(forms);
+                forms.names.lists[list][at].spellings[spelling] = others;
+                forms.names.lists[list][next].spellings[spelling] = own;
+            });
+            add(&format!("{name} {at} and the next alike"), &|forms| {
+                let [_, others] = spellings(forms);
+                forms.names.lists[list][at].spellings[spelling] = others;
+            });
         }
-        add(format!("{name}: elapsed for current"), &|forms| {
+        add(&format!("{name}: elapsed for current"), &|forms| {
             for name in &mut forms.names.lists[list] {
                 name.number = (name.number + 1 - least) % count as u32 + least;
             }
         });
     }
-    add(
-        "a half's number: elapsed for current".to_string(),
-        &|forms| forms.current = 0,
-    );
-    add("the dark half from 14".to_string(), &|forms| {
+    add("a half's: elapsed for current", &|forms| forms.current = 0);
+    add("the dark half from 14", &|forms| {
         forms.names.halves[1].number = 14
     });
-    add("an end that is counted".to_string(), &|forms| forms.end = 1);
-    add("a sign of 29 degrees".to_string(), &|forms| {
-        forms.sign = 29 * 3600
-    });
-    add("signs from the second on".to_string(), &|forms| {
+    add("an end that is counted", &|forms| forms.end = 1);
+    add("a sign of 29 degrees", &|forms| forms.sign = 29 * 3600);
+    add("signs from the second on", &|forms| {
         forms.names.begins.rotate_left(1)
     });
-    add(
-        "minutes and seconds for degrees and minutes".to_string(),
-        &|forms| {
-            forms.three_parts = |two| format!("0:{two}");
-        },
-    );
+    add("two parts for minutes and seconds", &|forms| {
+        forms.three_parts = |two| format!("0:{two}");
+    });
     for (what, spells) in WRONG_LETTERS {
-        add(what.to_string(), &|forms| forms.spells = spells);
+        add(what, &|forms| forms.spells = spells);
     }
     wrong
 }
@@ -264,7 +236,8 @@ pub fn run(checks: &mut Checks, almanac: &Almanac) {
     let open = Forms::of_document();
     let settled = open.settled();
     let names = &settled.names;
-    tables(checks, names);
+    lists(checks, names);
+    signs_and_halves(checks, names);
     open_forms(checks, almanac, open);
     for forms in [&settled, open] {
         refused_forms(checks, almanac, forms);
