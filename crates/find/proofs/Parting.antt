@@ -58,8 +58,8 @@ module _ (q : Query) (e : refusalOf q ≡ 0) where
     pub part-filled :
         (list : List ℕ) (found : Found) (after : List ℕ) →
         Searched (withSunArcs (between q first last)) list found after →
-        last < first + 16384 →
-        65536 ≤ length list →
+        last < first + 131072 →
+        524288 ≤ length list →
         Filled (between q first last) list (found .length) after
     part-filled list found after s near room =
         by-search (between q first last) good-part list found after s (omega (arith, matching-short (between q first last)))

@@ -20,14 +20,12 @@ ghost use Rattle.search.specs.Days.{matchingDays, visitedDays};
 ghost use Rattle.search.specs.Spans.{between};
 ghost use Rattle.find.specs.Output.{headingOf, outputOf, NextBytes, frontDays, NextDays};
 
-// With the page and the buffer a run keeps within 1 MiB of stack. A span with more matching days than the list has
-// entries is searched part by part, with an entry for each day of a part. A page's query is searched as the one that
-// asks for the mean Sun too (`with_sun_arcs`): it has the same matching days, and fewer days are looked at.
-const PART: u32 = 16384;
+// The list's entries: it stands where the page's text was, which is not needed once it is read. A span with more
+// matching days is searched part by part, with an entry for each day of a part. A page's query is searched as the one
+// that asks for the mean Sun too (`with_sun_arcs`): it has the same matching days, and fewer days are looked at.
+const PART: u32 = 131072;
 
-const LIST: usize = entries::ENTRY_BYTES * PART as usize;
-
-const BUFFER: usize = 65536;
+const BUFFER: usize = 16384;
 
 // How far the output is written: how many bytes of it, and whether no write failed.
 struct Written {
@@ -99,7 +97,7 @@ fn print_listed(
 // The last day of the part that begins with a day.
 fn part_end(first: u32, last: u32) -> u32
     requires { ⌜ first ≤ last ⌝ }
-    ensures { λ r. ⌜ (first ≤ r) × (r ≤ last) × (r < first + 16384) ⌝ }
+    ensures { λ r. ⌜ (first ≤ r) × (r ≤ last) × (r < first + 131072) ⌝ }
 {
     if last - first < PART {
         return last;
@@ -119,7 +117,7 @@ fn part_of(query: Query, first: u32, last: u32) -> Query
 // The lines of the matching days, part by part of the span.
 fn print_parts(query: Query, before: usize, list: &mut [u8], buffer: &mut [u8]) -> Written
     requires { ⌜ (refusalOf query ≡ 0) × (before ≡ length (headingOf query)) ⌝ }
-    requires { ⌜ (65536 ≤ length (now list)) × (lineCapacity ≤ length (now buffer)) ⌝ }
+    requires { ⌜ (524288 ≤ length (now list)) × (lineCapacity ≤ length (now buffer)) ⌝ }
     ensures { λ r. ⌜ (r .whole ≡ true → r .bytes ≡ length (outputOf query)) ⌝ }
 {
     let mut written = before;
@@ -145,7 +143,7 @@ fn print_parts(query: Query, before: usize, list: &mut [u8], buffer: &mut [u8]) 
 // searched before it, and where the list has an entry for each of them they are listed already: each day is examined
 // once.
 fn print_found(query: Query, list: &mut [u8], buffer: &mut [u8]) -> Written
-    requires { ⌜ (refusalOf query ≡ 0) × (65536 ≤ length (now list)) × (lineCapacity ≤ length (now buffer)) ⌝ }
+    requires { ⌜ (refusalOf query ≡ 0) × (524288 ≤ length (now list)) × (lineCapacity ≤ length (now buffer)) ⌝ }
     ensures { λ r. ⌜ (r .whole ≡ true → r .bytes ≡ length (outputOf query)) ⌝ }
 {
     let found = search::list_first(query.with_sun_arcs(), list);
@@ -159,12 +157,11 @@ fn print_found(query: Query, list: &mut [u8], buffer: &mut [u8]) -> Written
     print_listed(query, heading.bytes, found, list, buffer)
 }
 
-fn find_days(query: Query)
-    requires { ⌜ refusalOf query ≡ 0 ⌝ }
+fn find_days(query: Query, list: &mut [u8])
+    requires { ⌜ (refusalOf query ≡ 0) × (524288 ≤ length (now list)) ⌝ }
 {
-    let mut list = [0u8; LIST];
     let mut buffer = [0u8; BUFFER];
-    let written = print_found(query, &mut list, &mut buffer);
+    let written = print_found(query, list, &mut buffer);
     if !written.whole {
         output::say(output::not_written());
     }
@@ -191,7 +188,7 @@ fn say_remarks(text: &[u8]) {
 }
 
 fn read_and_find(input: &mut [u8])
-    requires { ⌜ length (now input) ≤ tooLong ⌝ }
+    requires { ⌜ (length (now input) ≤ tooLong) × (tooLong ≤ length (now input)) ⌝ }
 {
     let n = input::read_input(input);
     if n == input.len() {
@@ -205,7 +202,7 @@ fn read_and_find(input: &mut [u8])
         return;
     }
     say_remarks(&input[..n]);
-    find_days(read.query);
+    find_days(read.query, input);
 }
 
 fn main() {

@@ -40,7 +40,7 @@ refuse-requires : tie.Need-refuse-requires
 refuse-requires c κs =
     let got = c .before .before .before .before .before .before .before in
     small-number _ _ (c .before .before .read .ensures)
-    (omega (arith, got .read-input .ensures .0, got .read-input .ensures .1, got .read-input .kept .0, got .before .before .before .pre))
+    (omega (arith, got .read-input .ensures .0, got .read-input .ensures .1, got .read-input .kept .0, got .before .before .before .pre .0))
 
 same-length-2 : tie.Need-same-length-2
 same-length-2 c = search needs
@@ -58,7 +58,11 @@ say-remarks-requires : tie.Need-say-remarks-requires
 say-remarks-requires c κs = search needs
 
 find-days-requires : tie.Need-find-days-requires
-find-days-requires c κs = accepted-query _ _ (c .before .before .before .before .read .ensures) (c .before .before .if2 .left)
+find-days-requires c κs =
+    let got = c .before .before .before .before .before .before .before .before .before .before in (
+      accepted-query _ _ (c .before .before .before .before .before .read .ensures) (c .before .before .before .if2 .left),
+      omega (arith, got .read-input .kept .0, got .before .before .before .pre .1),
+    )
 
 same-length-3 : tie.Need-same-length-3
 same-length-3 c = search needs
