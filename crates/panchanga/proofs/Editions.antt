@@ -3,20 +3,20 @@
 -- Assumes nothing.
 use mathlib.Core.Bool.{Bool, true, false, cond}
 use mathlib.Core.Logic.{_⊎_, inl, inr}
-use mathlib.Core.Path.{_≡_, refl, sym, ap}
+use mathlib.Core.Path.{_≡_, refl, sym}
 use Prim.Native.Nat.{ℕ, _+_, _*_, _-_, _/_, _%_, _≤_, _<_}
 use native.Mathlib.Decide.{decLe}
 use native.Mathlib.Omega.{arith}
-use native.Mathlib.Nat.{div-lt-iff-lt-mul}
 use lib.Dec.{leb}
 use borrow.Author.Tests.{leb-true, leb-false}
 use Rattle.days.specs.declared.Day.{Day}
 use Rattle.longitudes.specs.Longitudes.{circle, differenceOf, longitudeAt}
 use Rattle.longitudes.proofs.Subtraction.{difference-small, difference-by}
-use Rattle.panchanga.specs.TrueLongitudes.{bhuja, bhujaProduct, equation, corrected, firstEdition, secondEdition, sunEquation, trueMoon}
+use Rattle.panchanga.specs.TrueLongitudes.{bhuja, bhujaProduct, equation, corrected, firstEdition, secondEdition, sunApogee, sunAnomaly, sunEquation, largestSunEquation, trueMoon}
 use Rattle.panchanga.specs.OnDays.{trueMoonAt}
 use Rattle.panchanga.proofs.Naturals.{added, subtracted}
 use Rattle.panchanga.proofs.Bounds.{moon-alone-small}
+use Rattle.panchanga.proofs.TrueSun.{byQ, product-most, equation-most}
 
 bhuja-most : (x : ℕ) → x < circle → bhuja x ≤ 324000
 unfolding bhuja
@@ -28,25 +28,12 @@ bhuja-most x h = go (leb x 324000) (leb x 648000) (leb x 972000) refl refl refl
     go false false true a b c = omega (arith, leb-true x 972000 c)
     go false false false a b c = omega (arith, leb-false x 972000 c)
 
--- Q is at most the square of a quarter circle: the square of s and what is left of the quarter is as much
-product-most : (s : ℕ) → s ≤ 324000 → bhujaProduct s ≤ 104976000000
-product-most s h = go (324000 - s) (omega arith)
-  where
-    go : (t : ℕ) → s + t ≡ 324000 → bhujaProduct s ≤ 104976000000
-    go t e =
-        let rest : 648000 - s ≡ s + t + t = omega arith in
-        rw rest (omega (arith, ap (λ (x : ℕ). x * x) e))
-
-most : (Q : ℕ) → Q ≤ 104976000000 → 32400 * Q / (538526880000 - Q) ≤ 7845
-most Q h =
-    let d : 0 < 538526880000 - Q = omega arith in
-    let l : 32400 * Q / (538526880000 - Q) < 7846 = div-lt-iff-lt-mul d .1 (omega arith) in
-    omega arith
-
--- the Sun's largest equation is 7845 seconds
-pub sun-equation-most : (mean : ℕ) → sunEquation mean ≤ 7845
-unfolding equation
-sun-equation-most mean = most _ (product-most _ (bhuja-most _ (difference-small 280800 mean)))
+-- the Sun's equation is never above its largest
+pub sun-equation-most : (mean : ℕ) → sunEquation mean ≤ largestSunEquation
+unfolding equation byQ
+sun-equation-most mean =
+    let x = sunAnomaly mean in
+    equation-most (bhujaProduct (bhuja x)) (product-most (bhuja x) (omega (arith, bhuja-most x (difference-small sunApogee mean))))
 
 -- and a twenty-seventh of it 290
 pub sun-share-most : (mean : ℕ) → sunEquation mean / 27 ≤ 290

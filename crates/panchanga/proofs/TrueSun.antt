@@ -15,14 +15,14 @@ use Rattle.panchanga.specs.TrueLongitudes.{bhuja, bhujaProduct, equation
 use Rattle.panchanga.proofs.Naturals.{added, subtracted, first-half, second-half}
 
 -- the equation by Q, and by an anomaly in its half circle
-unfoldable byQ : ℕ → ℕ
+unfoldable pub byQ : ℕ → ℕ
 byQ Q = 32400 * Q / (538526880000 - Q)
 
 abbrev inHalf : ℕ → ℕ
 inHalf s = byQ (bhujaProduct s)
 
 -- Q is largest in the middle of the half circle
-product-most : (s : ℕ) → s ≤ 648000 → bhujaProduct s ≤ 104976000000
+pub product-most : (s : ℕ) → s ≤ 648000 → bhujaProduct s ≤ 104976000000
 product-most s h = go (decLe s 324000)
   where
     low : (s t : ℕ) → s + t ≡ 324000 → s * (s + t + t) ≤ 104976000000
@@ -39,7 +39,8 @@ product-most s h = go (decLe s 324000)
         let w : s ≡ 648000 - s + (s - 324000) + (s - 324000) = omega arith in
         rw (ap (λ (x : ℕ). x * (648000 - s)) w) (high (648000 - s) (s - 324000) (omega arith))
 
-equation-most : (Q : ℕ) → Q ≤ 104976000000 → byQ Q ≤ largestSunEquation
+-- THE SUN'S LARGEST EQUATION
+pub equation-most : (Q : ℕ) → Q ≤ 104976000000 → byQ Q ≤ largestSunEquation
 unfolding byQ
 equation-most Q h = omega (arith, below)
   where
