@@ -2,7 +2,8 @@
 -- together.
 -- Assumes nothing.
 use mathlib.Core.Bool.{Bool, true, false, cond}
-use mathlib.Core.Path.{_≡_, refl}
+use mathlib.Core.List.{[], _∷_, _++_}
+use mathlib.Core.Path.{_≡_, refl, _∙_}
 use Prim.Native.Nat.{ℕ, zero, suc, _+_, _≤_}
 use native.Mathlib.Omega.{arith}
 use lib.ListN.{getD, replicate}
@@ -10,18 +11,27 @@ use Rattle.days.specs.declared.Day.{Day}
 use Rattle.days.specs.Days.{inRange}
 use Rattle.longitudes.specs.Longitudes.{differenceOf, longitudeAt}
 use Rattle.planets.specs.declared.TrueLongitudes.{TrueLongitudes}
-use Rattle.planets.specs.Tables.{rowOf}
-use Rattle.planets.specs.Steps.{truePlanet}
+use Rattle.planets.specs.Tables.{PlanetRow, rowOf}
+use Rattle.planets.specs.Steps.{sighraSize, mandaSize, halfCorrected, mandaAnomaly, mandaCorrected, secondAnomaly, truePlanet}
 use Rattle.planets.specs.OnDays.{isInner, meanPlanet, firstAnomaly, truePlanetAt, truePlanetsAt, truePlanetsOf}
+use Rattle.planets.proofs.Lines.{line-behind}
+
+-- the rows as the code has them, with a 0 behind the last entry, give the same
+abbrev withZero : PlanetRow → PlanetRow
+withZero r = record { sighra = r .sighra ++ (0 ∷ []); manda = r .manda ++ (0 ∷ []); apogee = r .apogee }
+
+same-planet : (r : PlanetRow) (mean first : ℕ) → truePlanet (withZero r) mean first ≡ truePlanet r mean first
+unfolding halfCorrected mandaAnomaly mandaCorrected secondAnomaly truePlanet sighraSize mandaSize
+same-planet r mean first = simp line-behind
 
 module _ (p sun own : ℕ) (d : Day) (s : sun ≡ longitudeAt 0 d) (o : own ≡ longitudeAt (4 + p) d) where
-  pub outer-planet : isInner p ≡ false → truePlanet (rowOf p) own (differenceOf sun own) ≡ truePlanetAt p d
+  pub outer-planet : isInner p ≡ false → truePlanet (withZero (rowOf p)) own (differenceOf sun own) ≡ truePlanetAt p d
   unfolding truePlanetAt meanPlanet firstAnomaly
-  outer-planet i = rw (i, s, o)
+  outer-planet i = same-planet (rowOf p) own (differenceOf sun own) ∙ rw (i, s, o)
 
-  pub inner-planet : isInner p ≡ true → truePlanet (rowOf p) sun own ≡ truePlanetAt p d
+  pub inner-planet : isInner p ≡ true → truePlanet (withZero (rowOf p)) sun own ≡ truePlanetAt p d
   unfolding truePlanetAt meanPlanet firstAnomaly
-  inner-planet i = rw (i, s, o)
+  inner-planet i = same-planet (rowOf p) sun own ∙ rw (i, s, o)
 
 pub five-given : (d : Day) → inRange d ≡ true → truePlanetsOf d ≡ record { refusal = 0; longitudes = truePlanetsAt d }
 unfolding truePlanetsOf

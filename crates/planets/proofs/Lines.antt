@@ -1,8 +1,8 @@
 -- The straight line: at an entry it is the entry, between two it is not above the larger, and what the code reckons is
 -- the same fraction in smaller numbers.
 -- Assumes nothing.
-use mathlib.Core.List.{[], _∷_}
-use mathlib.Core.Path.{_≡_, ap}
+use mathlib.Core.List.{[], _∷_, _++_}
+use mathlib.Core.Path.{_≡_, refl, ap}
 use Prim.Native.Nat.{ℕ, zero, suc, _+_, _*_, _-_, _/_, _%_, _≤_}
 use native.Mathlib.Omega.{arith}
 use native.Mathlib.Nat.{mul-le-mul-right}
@@ -44,11 +44,18 @@ line-entry row i =
     let r : i * spacing % spacing ≡ 0 = omega arith in
     rw (q, r) (omega arith)
 
--- in the code's numbers
-pub on-entry : (row : Entries) (x : ℕ) → x % spacing ≡ 0 → straightLine row x ≡ getD row (x / spacing) 0 * tenth
-unfolding straightLine onLine
-on-entry row x h = rw h (omega arith)
+-- a 0 behind the last entry changes nothing
+behind : (row : Entries) (i : ℕ) → getD (row ++ (0 ∷ [])) i 0 ≡ getD row i 0
+behind [] zero = refl
+behind [] (suc i) = refl
+behind (e ∷ row) zero = refl
+behind (e ∷ row) (suc i) = behind row i
 
+pub line-behind : (row : Entries) (x : ℕ) → straightLine (row ++ (0 ∷ [])) x ≡ straightLine row x
+unfolding straightLine
+line-behind row x = rw (behind row (x / spacing), behind row (x / spacing + 1))
+
+-- in the code's numbers
 pub between : (row : Entries) (x : ℕ) → straightLine row x ≡ (getD row (x / spacing) 0 * (spacing - x % spacing) + getD row (x / spacing + 1) 0 * (x % spacing)) / 150
 unfolding straightLine onLine
 between row x = omega arith

@@ -44,21 +44,52 @@ const SPACING: u32 = CIRCLE / 24;
 // A tenth of a degree, the unit of the tables.
 const TENTH: u32 = CIRCLE / 3600;
 
-// Paper 02's tables, a row for each planet.
-const SIGHRA: [[u16; 13]; PLANETS] = [
-    [0, 58, 117, 174, 228, 279, 325, 365, 393, 400, 368, 249, 0],
-    [0, 41, 81, 117, 150, 178, 199, 212, 212, 195, 155, 89, 0],
-    [0, 25, 47, 68, 85, 98, 106, 108, 102, 89, 66, 36, 0],
-    [0, 63, 126, 186, 246, 302, 354, 402, 440, 461, 443, 326, 0],
-    [0, 15, 28, 39, 48, 54, 57, 57, 53, 45, 33, 18, 0],
+// Paper 02's tables, a row for each planet, with a 0 behind the last entry: it counts for nothing, since no arc goes
+// past that entry.
+const SIGHRA: [[u16; 14]; PLANETS] = [
+    [
+        0,
+        58,
+        117,
+        174,
+        228,
+        279,
+        325,
+        365,
+        393,
+        400,
+        368,
+        249,
+        0,
+        0,
+    ],
+    [0, 41, 81, 117, 150, 178, 199, 212, 212, 195, 155, 89, 0, 0],
+    [0, 25, 47, 68, 85, 98, 106, 108, 102, 89, 66, 36, 0, 0],
+    [
+        0,
+        63,
+        126,
+        186,
+        246,
+        302,
+        354,
+        402,
+        440,
+        461,
+        443,
+        326,
+        0,
+        0,
+    ],
+    [0, 15, 28, 39, 48, 54, 57, 57, 53, 45, 33, 18, 0, 0],
 ];
 
-const MANDA: [[u16; 7]; PLANETS] = [
-    [0, 29, 57, 85, 109, 124, 130],
-    [0, 12, 21, 28, 33, 35, 36],
-    [0, 14, 27, 39, 48, 55, 57],
-    [0, 6, 11, 13, 14, 15, 15],
-    [0, 19, 40, 60, 77, 89, 93],
+const MANDA: [[u16; 8]; PLANETS] = [
+    [0, 29, 57, 85, 109, 124, 130, 0],
+    [0, 12, 21, 28, 33, 35, 36, 0],
+    [0, 14, 27, 39, 48, 55, 57, 0],
+    [0, 6, 11, 13, 14, 15, 15, 0],
+    [0, 19, 40, 60, 77, 89, 93, 0],
 ];
 
 const APOGEES: [u32; PLANETS] = [432000, 756000, 648000, 324000, 864000];
@@ -66,15 +97,12 @@ const APOGEES: [u32; PLANETS] = [432000, 756000, 648000, 324000, 864000];
 // A row's size at an arc: the straight line between two entries, each counted by how near it is. (Fifteen degrees have
 // 150 times the seconds of a tenth of a degree.)
 fn on_line(row: &[u16], arc: u32) -> u32
-    requires { ⌜ (arc + 54000 ≤ 54000 * length (now row)) × (largest (now row) ≤ 461) ⌝ }
+    requires { ⌜ (arc + 108000 ≤ 54000 * length (now row)) × (largest (now row) ≤ 461) ⌝ }
     ensures { λ r. ⌜ (r ≡ straightLine (now (row .entry)) arc) × (r ≤ 165960) ⌝ }
 {
     let at = (arc / SPACING) as usize;
     let past = arc % SPACING;
     let entry = row[at] as u32;
-    if past == 0 {
-        return entry * TENTH;
-    }
     let next = row[at + 1] as u32;
     (entry * (SPACING - past) + next * past) / (SPACING / TENTH)
 }
@@ -124,11 +152,13 @@ fn less(a: u32, b: u32) -> u32
 }
 
 // The true longitude of a mean planet with its first anomaly, by the planet's rows and its apogee.
-fn true_planet(sighra: &[u16], manda: &[u16], apogee: u32, mean: u32, first: u32) -> u32
-    requires { ⌜ (length (now sighra) ≡ 13) × ((length (now manda) ≡ 7) × ((largest (now sighra) ≤ 461) × (largest (now manda) ≤ 461))) ⌝ }
+fn true_planet(sighra: &[u16; 14], manda: &[u16; 8], apogee: u32, mean: u32, first: u32) -> u32
+    requires { ⌜ (largest (now sighra) ≤ 461) × (largest (now manda) ≤ 461) ⌝ }
     requires { ⌜ (apogee < 1296000) × ((mean < 1296000) × (first < 1296000)) ⌝ }
     ensures { λ r. ⌜ r ≡ truePlanet (record { sighra = now (sighra .entry); manda = now (manda .entry); apogee = apogee }) mean first ⌝ }
 {
+    let sighra: &[u16] = sighra;
+    let manda: &[u16] = manda;
     let half = forwards(first, on_line(sighra, within_half(first)) / 2);
     let place = within_circle(mean + half);
     let anomaly = less(apogee, place);
@@ -140,8 +170,8 @@ fn true_planet(sighra: &[u16], manda: &[u16], apogee: u32, mean: u32, first: u32
 }
 
 // The same of a planet with a mean place of its own: its first anomaly is the mean Sun less it.
-fn outer(sighra: &[u16], manda: &[u16], apogee: u32, sun: u32, own: u32) -> u32
-    requires { ⌜ (length (now sighra) ≡ 13) × ((length (now manda) ≡ 7) × ((largest (now sighra) ≤ 461) × (largest (now manda) ≤ 461))) ⌝ }
+fn outer(sighra: &[u16; 14], manda: &[u16; 8], apogee: u32, sun: u32, own: u32) -> u32
+    requires { ⌜ (largest (now sighra) ≤ 461) × (largest (now manda) ≤ 461) ⌝ }
     requires { ⌜ (apogee < 1296000) × ((sun < 1296000) × (own < 1296000)) ⌝ }
     ensures { λ r. ⌜ r ≡ truePlanet (record { sighra = now (sighra .entry); manda = now (manda .entry); apogee = apogee }) own (differenceOf sun own) ⌝ }
 {

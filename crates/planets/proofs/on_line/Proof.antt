@@ -1,9 +1,8 @@
--- `on_line` meets its contract: at an entry it is the entry, else the two are weighed; both keep to the row's largest
--- entry.
+-- `on_line` meets its contract: the two entries are weighed, which keeps to the row's largest.
 use borrow.Author.Needs.{needs}
 use mathlib.Core.Path.{sym}
 use native.Mathlib.Omega.{arith}
-use Rattle.planets.proofs.Lines.{LineFits, line-fits, on-entry, between}
+use Rattle.planets.proofs.Lines.{LineFits, line-fits, between}
 use Rattle.planets.proofs.on_line.Statement.{statement}
 use Rattle.planets.proofs.on_line.Tie as tie
 
@@ -22,12 +21,6 @@ shared-slice-read-entry c = search needs
 cast-entry : tie.Need-cast-entry
 cast-entry c = omega (arith, fits (c .before))
 
-mul-result : tie.Need-mul-result
-mul-result c = omega (arith, fits (c .before .before))
-
-returns : tie.Need-returns
-returns c = (sym (on-entry _ _ (c .if1 .taken)), omega (arith, fits (c .before .before)))
-
 add-next : tie.Need-add-next
 add-next c = search needs
 
@@ -38,25 +31,25 @@ shared-slice-read-next : tie.Need-shared-slice-read-next
 shared-slice-read-next c = search needs
 
 cast-next : tie.Need-cast-next
-cast-next c = omega (arith, fits (c .before .before .before))
+cast-next c = omega (arith, fits (c .before .before))
 
 sub-result : tie.Need-sub-result
 sub-result c = search needs
 
-mul-result-2 : tie.Need-mul-result-2
-mul-result-2 c = omega (arith, fits (c .before .before .before))
+mul-result : tie.Need-mul-result
+mul-result c = omega (arith, fits (c .before .before))
 
-mul-result-3 : tie.Need-mul-result-3
-mul-result-3 c = omega (arith, fits (c .before .before .before))
+mul-result-2 : tie.Need-mul-result-2
+mul-result-2 c = omega (arith, fits (c .before .before))
 
 add-result : tie.Need-add-result
-add-result c = omega (arith, fits (c .before .before .before))
+add-result c = omega (arith, fits (c .before .before))
 
 div-result : tie.Need-div-result
 div-result c = search needs
 
-returns-2 : tie.Need-returns-2
-returns-2 c = (sym (between _ _), omega (arith, fits (c .before .before .before)))
+returns : tie.Need-returns
+returns c = (sym (between _ _), omega (arith, fits (c .before .before)))
 
 pub on-line-spec : {M : Type 1} → statement M
 on-line-spec =
@@ -66,15 +59,13 @@ on-line-spec =
     mul-entry
     shared-slice-read-entry
     cast-entry
-    mul-result
-    returns
     add-next
     mul-next
     shared-slice-read-next
     cast-next
     sub-result
+    mul-result
     mul-result-2
-    mul-result-3
     add-result
     div-result
-    returns-2)
+    returns)

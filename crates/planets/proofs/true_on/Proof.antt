@@ -19,12 +19,6 @@ array-copy-out-sighra c = search needs
 array-copy-out-manda : tie.Need-array-copy-out-manda
 array-copy-out-manda c = search needs
 
-slice-aggregate-outer : tie.Need-slice-aggregate-outer
-slice-aggregate-outer c = search needs
-
-slice-aggregate-outer-2 : tie.Need-slice-aggregate-outer-2
-slice-aggregate-outer-2 c = search needs
-
 array-read-outer : tie.Need-array-read-outer
 array-read-outer c = search needs
 
@@ -42,12 +36,6 @@ array-copy-out-sighra-2 c = search needs
 
 array-copy-out-manda-2 : tie.Need-array-copy-out-manda-2
 array-copy-out-manda-2 c = search needs
-
-slice-aggregate-true-planet : tie.Need-slice-aggregate-true-planet
-slice-aggregate-true-planet c = search needs
-
-slice-aggregate-true-planet-2 : tie.Need-slice-aggregate-true-planet-2
-slice-aggregate-true-planet-2 c = search needs
 
 array-read-true-planet : tie.Need-array-read-true-planet
 array-read-true-planet c = search needs
@@ -67,12 +55,6 @@ array-copy-out-sighra-3 c = search needs
 array-copy-out-manda-3 : tie.Need-array-copy-out-manda-3
 array-copy-out-manda-3 c = search needs
 
-slice-aggregate-outer-3 : tie.Need-slice-aggregate-outer-3
-slice-aggregate-outer-3 c = search needs
-
-slice-aggregate-outer-4 : tie.Need-slice-aggregate-outer-4
-slice-aggregate-outer-4 c = search needs
-
 array-read-outer-2 : tie.Need-array-read-outer-2
 array-read-outer-2 c = search needs
 
@@ -91,12 +73,6 @@ array-copy-out-sighra-4 c = search needs
 array-copy-out-manda-4 : tie.Need-array-copy-out-manda-4
 array-copy-out-manda-4 c = search needs
 
-slice-aggregate-true-planet-3 : tie.Need-slice-aggregate-true-planet-3
-slice-aggregate-true-planet-3 c = search needs
-
-slice-aggregate-true-planet-4 : tie.Need-slice-aggregate-true-planet-4
-slice-aggregate-true-planet-4 c = search needs
-
 array-read-true-planet-2 : tie.Need-array-read-true-planet-2
 array-read-true-planet-2 c = search needs
 
@@ -114,12 +90,6 @@ array-copy-out-sighra-5 c = search needs
 
 array-copy-out-manda-5 : tie.Need-array-copy-out-manda-5
 array-copy-out-manda-5 c = search needs
-
-slice-aggregate-outer-5 : tie.Need-slice-aggregate-outer-5
-slice-aggregate-outer-5 c = search needs
-
-slice-aggregate-outer-6 : tie.Need-slice-aggregate-outer-6
-slice-aggregate-outer-6 c = search needs
 
 array-read-outer-3 : tie.Need-array-read-outer-3
 array-read-outer-3 c = search needs
@@ -158,40 +128,30 @@ true-on-spec =
     enum-told
     array-copy-out-sighra
     array-copy-out-manda
-    slice-aggregate-outer
-    slice-aggregate-outer-2
     array-read-outer
     mean-on-requires-2
     outer-requires
     enum-told-2
     array-copy-out-sighra-2
     array-copy-out-manda-2
-    slice-aggregate-true-planet
-    slice-aggregate-true-planet-2
     array-read-true-planet
     mean-on-requires-3
     true-planet-requires
     enum-told-3
     array-copy-out-sighra-3
     array-copy-out-manda-3
-    slice-aggregate-outer-3
-    slice-aggregate-outer-4
     array-read-outer-2
     mean-on-requires-4
     outer-requires-2
     enum-told-4
     array-copy-out-sighra-4
     array-copy-out-manda-4
-    slice-aggregate-true-planet-3
-    slice-aggregate-true-planet-4
     array-read-true-planet-2
     mean-on-requires-5
     true-planet-requires-2
     enum-told-5
     array-copy-out-sighra-5
     array-copy-out-manda-5
-    slice-aggregate-outer-5
-    slice-aggregate-outer-6
     array-read-outer-3
     mean-on-requires-6
     outer-requires-3
