@@ -42,7 +42,7 @@ WRONG = [
     ("a search reckons the Sun before it scans", "search", "    let mut none = [0u8; 0];\n", "    let mut none = [0u8; 0];\n    longitudes::mean_longitude(Body::Sun, Day::EPOCH);\n"),
     ("a search tests an arc by what the look tests it by", "search", "    let mut none = [0u8; 0];\n", "    let mut none = [0u8; 0];\n    nearer(query.arcs[0], 0);\n"),
     ("the test of the ranges comes to a condition", "query", "    let true_arcs = query.true_arcs;\n    true_arcs_in_range(true_arcs)\n", "    let true_arcs = query.true_arcs;\n    others_met(query, Day::EPOCH);\n    true_arcs_in_range(true_arcs)\n"),
-    ("scan tests true arcs on a day that is not looked at", "search", "        let next = next_visit(visit, seen);\n", "        let next = next_visit(visit, seen);\n        query::true_longitude(1, TrueBody::Sun, Day::EPOCH);\n"),
+    ("scan tests true arcs on a day that is not looked at", "search", "        let next = next_visit(visit, seen);\n", "        let next = next_visit(visit, seen);\n        query::true_arcs_have(1, TrueBody::Sun, BodyArcs::NONE, Day::EPOCH);\n"),
     ("what is asked comes to a true longitude", "search", "    let places = given_places(true_arcs);\n", "    let places = given_places(true_arcs);\n    query::true_longitude(query.edition, TrueBody::Moon, Day::EPOCH);\n"),
     ("the look reckons the next day", "search", "    let day = visit.day;\n", "    let day = visit.day + 1;\n"),
 ]

@@ -142,28 +142,29 @@ lights-on edition d found r e =
     let given = e ∙ lights-given edition d (record { edition = r .1; range = r .0 }) in
     record { sun = rw given; moon = rw given }
 
--- where no number is asked for any will do
-any : (a : Asked) (value : ℕ) → a .given ≡ false → meets a value ≡ true
-unfolding meets
-any a value e = rw e
-
 -- the elements that are asked for, of a day in range in an edition
 module _ (edition : ℕ) (tithi nakshatra yoga karana : Asked) (d : Day) where
-  -- in turn, the nakshatra first: the first that is not met decides, else the last
-  pub nakshatra-not-met : meets nakshatra (nakshatraAt edition d) ≡ false → false ≡ elementsMet edition tithi nakshatra yoga karana d
+  pub only-nakshatra :
+      (found : Bool) →
+      tithi .given ≡ false →
+      yoga .given ≡ false →
+      karana .given ≡ false →
+      found ≡ meets nakshatra (nakshatraAt edition d) →
+      found ≡ elementsMet edition tithi nakshatra yoga karana d
+  unfolding elementsMet meets
+  only-nakshatra found t y k e = e ∙ rw (t, y, k) (sym (and-true (meets nakshatra (nakshatraAt edition d))))
+
+  -- in turn: the first that is not met decides, else the last
+  pub tithi-not-met : meets tithi (tithiAt edition d) ≡ false → false ≡ elementsMet edition tithi nakshatra yoga karana d
   unfolding elementsMet
-  nakshatra-not-met f = rw f (sym (and-false (meets tithi (tithiAt edition d))))
+  tithi-not-met e = rw e
 
-  module _ (n : meets nakshatra (nakshatraAt edition d) ≡ true) where
-    pub no-more-asked : tithi .given ≡ false → yoga .given ≡ false → karana .given ≡ false → true ≡ elementsMet edition tithi nakshatra yoga karana d
+  module _ (t : meets tithi (tithiAt edition d) ≡ true) where
+    pub nakshatra-not-met : meets nakshatra (nakshatraAt edition d) ≡ false → false ≡ elementsMet edition tithi nakshatra yoga karana d
     unfolding elementsMet
-    no-more-asked t y k = rw (n, any tithi (tithiAt edition d) t, any yoga (yogaAt edition d) y, any karana (karanaAt edition d) k)
+    nakshatra-not-met f = rw (t, f)
 
-    pub tithi-not-met : meets tithi (tithiAt edition d) ≡ false → false ≡ elementsMet edition tithi nakshatra yoga karana d
-    unfolding elementsMet
-    tithi-not-met e = rw e
-
-    module _ (t : meets tithi (tithiAt edition d) ≡ true) where
+    module _ (n : meets nakshatra (nakshatraAt edition d) ≡ true) where
       pub yoga-not-met : meets yoga (yogaAt edition d) ≡ false → false ≡ elementsMet edition tithi nakshatra yoga karana d
       unfolding elementsMet
       yoga-not-met f = rw (t, n, f)

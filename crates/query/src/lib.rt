@@ -482,8 +482,8 @@ fn other_arcs_met(arcs: [BodyArcs; 9], day: Day) -> bool
 }
 
 // Whether a day has the elements asked for. True longitudes take long to reckon: this is done only where an element is
-// asked for, and first for the nakshatra, which hangs on the Moon alone and rules out most days; the Sun's only for one
-// that hangs on both lights. A pair that is no day has none, nor has any day in what is no edition.
+// asked for, the Sun's only for one that hangs on both lights. A pair that is no day has none, nor has any day in what
+// is no edition.
 pub fn elements_met(
     edition: u32,
     tithi: Asked,
@@ -500,18 +500,18 @@ pub fn elements_met(
     if !day.in_range() {
         return false;
     }
-    if !nakshatra_met(nakshatra, edition, day) {
-        return false;
-    }
     if !tithi.given {
         if !yoga.given {
             if !karana.given {
-                return true;
+                return nakshatra_met(nakshatra, edition, day);
             }
         }
     }
     let found = panchanga::true_lights(edition, day);
     if !tithi.admits(panchanga::tithi_of(found.sun, found.moon)) {
+        return false;
+    }
+    if !nakshatra.admits(panchanga::nakshatra_of(found.moon)) {
         return false;
     }
     if !yoga.admits(panchanga::yoga_of(found.sun, found.moon)) {
@@ -562,11 +562,19 @@ pub fn true_longitude(edition: u32, body: TrueBody, day: Day) -> NumberAnswer
     NumberAnswer::accepted(true_on(edition, body, day))
 }
 
-// Whether a body's true longitude will do, which is reckoned only where an arc is given.
-fn in_true_arcs(edition: u32, body: TrueBody, arcs: BodyArcs, day: Day) -> bool
-    requires { ⌜ (inRange day ≡ true) × (isEdition edition ≡ true) ⌝ }
-    ensures { λ r. ⌜ r ≡ inArcs arcs (trueLongitudeAt edition (trueNumber body) day) ⌝ }
+// Whether a body's true longitude will do, which is reckoned only where an arc is given. A pair that is no day has
+// none, nor has any day in what is no edition.
+pub fn true_arcs_have(edition: u32, body: TrueBody, arcs: BodyArcs, day: Day) -> bool
+    ensures { λ r. ⌜ r ≡ (isEdition edition && (inRange day && inArcs arcs (trueLongitudeAt edition (trueNumber body) day))) ⌝ }
 {
+    let known = panchanga::is_edition(edition);
+    if !known {
+        return false;
+    }
+    let there = day.in_range();
+    if !there {
+        return false;
+    }
     if arcs.given() {
         let found = true_on(edition, body, day);
         arcs.have(found)
@@ -582,7 +590,7 @@ fn true_arcs_met(edition: u32, arcs: [BodyArcs; TRUE_BODIES], day: Day) -> bool
     let mut place = 0;
     while place < TRUE_BODIES {
         let of_body = arcs[place];
-        if !in_true_arcs(edition, TRUE_ORDER[place], of_body, day) {
+        if !true_arcs_have(edition, TRUE_ORDER[place], of_body, day) {
             return false;
         }
         place += 1;

@@ -8,7 +8,6 @@ use native.Mathlib.Omega.{arith}
 use lib.Dec.{leb}
 use borrow.Author.Tests.{leb-true, le-leb, lt-leb, eq-eqb, ne-eqb, not-true, not-false}
 use Rattle.days.specs.declared.Day.{Day}
-use Rattle.days.specs.declared.NumberAnswer.{NumberAnswer}
 use Rattle.days.specs.Days.{lastDay, inRange, pairAt, weekdayOn}
 use Rattle.days.proofs.Laws.{pair-in-range}
 use Rattle.panchanga.specs.TrueLongitudes.{isEdition}
@@ -16,19 +15,18 @@ use Rattle.query.specs.declared.Query.{Query}
 use Rattle.query.specs.Query.{sunArcs, conditionsMet, inSpan, matches, refusalOf}
 use Rattle.query.specs.declared.BodyArcs.{BodyArcs}
 use Rattle.query.specs.declared.TrueBody.{TrueBody}
-use Rattle.query.specs.Conditions.{weekdayMet, arcsGiven, givenArcs, inSome, inArcs, queryElementsMet, trueLongitudeAt}
-use Rattle.query.specs.TrueBodies.{trueNumber, trueLongitudeOf}
+use Rattle.query.specs.Conditions.{weekdayMet, arcsGiven, inArcs, queryElementsMet, trueLongitudeAt}
+use Rattle.query.specs.TrueBodies.{trueNumber}
 use Rattle.query.specs.Parts.{othersMet}
 use Rattle.query.proofs.Accepted.{accepted-by, edition-refused, edition-accepted}
 use Rattle.query.proofs.Conditions.{weekday-not-met, others-decide}
-use Rattle.query.proofs.TrueBodies.{given-longitude}
 use Rattle.search.specs.declared.Approach.{Approach}
 use Rattle.search.specs.declared.Examined.{Examined}
 use Rattle.search.specs.declared.More.{More}
 use Rattle.search.specs.declared.More.the-variants.{Nothing, Elements, TrueArcs}
 use Rattle.search.specs.Look.{sunAdvance, sunOn, sunInArcs, nextDay, notExamined, examinedOf}
 use Rattle.search.specs.Parts.{Approached, Asks}
-use Rattle.search.proofs.Others.{elements-decide, place-decides, place-given, no-more}
+use Rattle.search.proofs.Others.{elements-decide, place-decides, no-more}
 use Rattle.search.proofs.Arc.{given-decides, next-in, next-out}
 use Rattle.search.proofs.Skip.{outside-unmatched}
 
@@ -92,17 +90,11 @@ module _ (q : Query) (n : ℕ) where
       by-elements found e g = by-others found t (sym (g ∙ elements-decide q d (rw e at asks)))
 
       pub by-place :
-          (body : TrueBody) (arcs : BodyArcs) (answer : NumberAnswer) (found : Bool) →
+          (body : TrueBody) (arcs : BodyArcs) (found : Bool) →
           more ≡ TrueArcs body arcs →
-          answer ≡ trueLongitudeOf (q .edition) body d →
-          found ≡ inSome (givenArcs arcs) (answer .number) →
+          found ≡ (isEdition (q .edition) && (inRange d && inArcs arcs (trueLongitudeAt (q .edition) (trueNumber body) d))) →
           said found (n + 1) ≡ examinedOf q n
-      by-place body arcs answer found e a g =
-          let asked : Asks q (TrueArcs body arcs) = rw e at asks in
-          let edition = accepted-by q (i .accepts) .edition in
-          let range : inRange d ≡ true = rw (i .pair) (pair-in-range n (i .low)) in
-          let tested : found ≡ inArcs arcs (trueLongitudeAt (q .edition) (trueNumber body) d) = g ∙ ap (inSome (givenArcs arcs)) (given-longitude (q .edition) body d a edition range) ∙ place-given q d body arcs asked _ in
-          by-others found t (sym (tested ∙ (rw range at (rw edition at (place-decides q d body arcs asked)))))
+      by-place body arcs found e g = by-others found t (sym (g ∙ place-decides q d body arcs (rw e at asks)))
 
     pub by-more : (others : Bool) → not weekday ≡ false → others ≡ othersMet q d → said others (n + 1) ≡ examinedOf q n
     by-more others t e = by-others others t (sym e)

@@ -15,7 +15,7 @@ use Rattle.panchanga.specs.TrueLongitudes.{isEdition}
 use Rattle.query.specs.declared.BodyArcs.{BodyArcs}
 use Rattle.query.specs.declared.Query.{Query}
 use Rattle.query.specs.declared.TrueBody.{TrueBody}
-use Rattle.query.specs.Conditions.{meets, arcsAt, arcsGiven, givenArcs, inSome, inArcs, elementsMet, queryElementsMet, trueLongitudeAt, eachPlace, placeMet, trueArcsMet}
+use Rattle.query.specs.Conditions.{meets, arcsAt, arcsGiven, inArcs, elementsMet, queryElementsMet, trueLongitudeAt, eachPlace, placeMet, trueArcsMet}
 use Rattle.query.specs.Parts.{otherArcsMet, othersMet}
 use Rattle.query.specs.TrueBodies.{trueNumber}
 use Rattle.query.proofs.Conditions.{other-false, places-met}
@@ -72,20 +72,20 @@ pub record Counting (arcs : List BodyArcs) (count last place : ℕ) : Type 0 whe
   pub bound : place ≤ 7
   pub few : count ≤ place
   pub none : count ≡ 0 → (k : ℕ) → k < place → arcsGiven (arcsAt arcs k) ≡ false
-  pub one : count ≡ 1 → (last < place) × (arcsGiven (arcsAt arcs last) ≡ true) × ((k : ℕ) → k < place → (k ≡ last → ⊥) → arcsGiven (arcsAt arcs k) ≡ false)
+  pub one : count ≡ 1 → (last < place) × ((k : ℕ) → k < place → (k ≡ last → ⊥) → arcsGiven (arcsAt arcs k) ≡ false)
 
 module _ (arcs : List BodyArcs) where
   pub counting-start : Counting arcs 0 0 0
   counting-start = record { bound = omega arith; few = omega arith; none = λ e k h. absurd (omega arith); one = λ e. absurd (omega arith) }
 
   module _ (count last place : ℕ) (c : Counting arcs count last place) where
-    pub counting-given : place < 7 → arcsGiven (arcsAt arcs place) ≡ true → Counting arcs (count + 1) place (place + 1)
-    counting-given h e =
+    pub counting-given : place < 7 → Counting arcs (count + 1) place (place + 1)
+    counting-given h =
         record {
           bound = omega arith;
           few = omega (arith, c .few);
-          none = λ z k l. absurd (omega arith);
-          one = λ z. (omega arith, e, λ k l n. c .none (omega arith) k (apart k l n));
+          none = λ e k l. absurd (omega arith);
+          one = λ e. (omega arith, λ k l n. c .none (omega arith) k (apart k l n));
         }
       where
         apart : (k : ℕ) → k < place + 1 → (k ≡ place → ⊥) → k < place
@@ -97,7 +97,7 @@ module _ (arcs : List BodyArcs) where
           bound = omega arith;
           few = omega (arith, c .few);
           none = λ z. below-more _ _ (c .none z) e;
-          one = λ z. (omega (arith, c .one z .0), c .one z .1, λ k l n. go k n (decLe place k) (λ m. c .one z .2 k m n) l);
+          one = λ z. (omega (arith, c .one z), λ k l n. go k n (decLe place k) (λ m. c .one z .1 k m n) l);
         }
       where
         go : (k : ℕ) → (k ≡ last → ⊥) → Dec (place ≤ k) → (k < place → arcsGiven (arcsAt arcs k) ≡ false) → k < place + 1 → arcsGiven (arcsAt arcs k) ≡ false
@@ -108,7 +108,7 @@ module _ (arcs : List BodyArcs) where
     counting-end h =
         record {
           none = λ z k l n. c .none z k (omega (arith, c .bound));
-          one = λ z. (omega (arith, c .one z .0, c .bound), c .one z .1, λ k l n. c .one z .2 k (omega (arith, c .bound)) n);
+          one = λ z. (omega (arith, c .one z, c .bound), λ k l n. c .one z .1 k (omega (arith, c .bound)) n);
         }
 
 module _ (q : Query) (d : Day) where
@@ -151,8 +151,4 @@ module _ (q : Query) (d : Day) where
       Asks q (TrueArcs body arcs) →
       (isEdition (q .edition) && (inRange d && inArcs arcs (trueLongitudeAt (q .edition) (trueNumber body) d))) ≡ othersMet q d
   unfolding othersMet Asks
-  place-decides body arcs a = rw (a .2, arcs-free (a .0), elements-free (a .1), one-place (trueNumber body) (number-low body) (a .4))
-
-  pub place-given : (body : TrueBody) (arcs : BodyArcs) → Asks q (TrueArcs body arcs) → (x : ℕ) → inSome (givenArcs arcs) x ≡ inArcs arcs x
-  unfolding Asks inArcs
-  place-given body arcs a x = rw (a .3)
+  place-decides body arcs a = rw (a .2, arcs-free (a .0), elements-free (a .1), one-place (trueNumber body) (number-low body) (a .3))

@@ -41,13 +41,13 @@ NoneBut arcs place = (k : ℕ) → k < 7 → (k ≡ place → ⊥) → arcsGiven
 -- the places of which a true longitude is asked for: there are none, or there is one
 pub record GivenPlaces (arcs : List BodyArcs) (places : Places) : Type 0 where
   pub none : places .count ≡ 0 → NoneBut arcs 7
-  pub one : places .count ≡ 1 → (places .last < 7) × (arcsGiven (arcsAt arcs (places .last)) ≡ true) × NoneBut arcs (places .last)
+  pub one : places .count ≡ 1 → (places .last < 7) × NoneBut arcs (places .last)
 
 -- what is asked beside the mean Sun's arcs and the weekdays is what is said, and no more
 unfoldable pub Asks : Query → More → Type 0
 Asks q Nothing = (otherArcsGiven (q .arcs) ≡ false) × (elementsGiven q ≡ false) × NoneBut (q .«true_arcs») 7
 Asks q Elements = (otherArcsGiven (q .arcs) ≡ false) × NoneBut (q .«true_arcs») 7
-Asks q (TrueArcs body arcs) = (otherArcsGiven (q .arcs) ≡ false) × (elementsGiven q ≡ false) × (arcs ≡ arcsAt (q .«true_arcs») (trueNumber body)) × (arcsGiven arcs ≡ true) × NoneBut (q .«true_arcs») (trueNumber body)
+Asks q (TrueArcs body arcs) = (otherArcsGiven (q .arcs) ≡ false) × (elementsGiven q ≡ false) × (arcs ≡ arcsAt (q .«true_arcs») (trueNumber body)) × NoneBut (q .«true_arcs») (trueNumber body)
 Asks q Several = Unit {0}
 
 -- how many of the matching days are kept beside a list that may be too short for them

@@ -266,8 +266,8 @@ fn nearer(arcs: BodyArcs, longitude: u32) -> Approach
 // asked, which may be nothing. (That the day is one at all it tests so that the compiler reckons in 32 bits. What
 // decides a day with the Sun in its arcs stands twice: once, behind an `if` for the Sun, it makes a sparse search take
 // a tenth more time and a dense one a fifth, since the compiler then puts `others_met`, to which most days do not come,
-// into the scan's loop. Where the elements are all that is asked, these alone are handed on, and where one true
-// longitude is, its arcs are tested here: a whole query is copied field by field.)
+// into the scan's loop. Where the elements or one true longitude is all that is asked, these alone are handed on: a
+// whole query is copied field by field.)
 fn examine_day(query: Query, more: More, visit: Visit) -> Examined
     requires { ⌜ refusalOf query ≡ 0 ⌝ }
     requires { ⌜ Asks query more ⌝ }
@@ -301,7 +301,7 @@ fn examine_day(query: Query, more: More, visit: Visit) -> Examined
                 day + 1,
             ),
             More::TrueArcs { body, arcs } => Examined::accepted(
-                arcs.have(query::true_longitude(query.edition, body, pair).number),
+                query::true_arcs_have(query.edition, body, arcs, pair),
                 day + 1,
             ),
             More::Several => Examined::accepted(query::others_met(query, pair), day + 1),
@@ -327,7 +327,7 @@ fn examine_day(query: Query, more: More, visit: Visit) -> Examined
                 day + 1,
             ),
             More::TrueArcs { body, arcs } => Examined::accepted(
-                arcs.have(query::true_longitude(query.edition, body, pair).number),
+                query::true_arcs_have(query.edition, body, arcs, pair),
                 day + 1,
             ),
             More::Several => Examined::accepted(query::others_met(query, pair), day + 1),

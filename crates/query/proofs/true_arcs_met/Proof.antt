@@ -28,15 +28,17 @@ mul-of-body c = search needs
 array-copy-out-of-body : tie.Need-array-copy-out-of-body Inv-loop μ-loop
 array-copy-out-of-body c = search needs
 
-array-copy-out-in-true-arcs : tie.Need-array-copy-out-in-true-arcs Inv-loop μ-loop
-array-copy-out-in-true-arcs c = search needs
+array-copy-out-true-arcs-have : tie.Need-array-copy-out-true-arcs-have Inv-loop μ-loop
+array-copy-out-true-arcs-have c = search needs
 
-in-true-arcs-requires : tie.Need-in-true-arcs-requires Inv-loop μ-loop
-in-true-arcs-requires c κs = search needs
+true-arcs-have-requires : tie.Need-true-arcs-have-requires Inv-loop μ-loop
+true-arcs-have-requires c κs = search needs
 
 -- the arcs tested are those of the body with the loop's number
-tested : (c : tie.After-in-true-arcs Inv-loop μ-loop) → c .in-true-arcs .result ≡ placeMet (c .before .before .before .before .before .args .edition) (c .before .before .before .before .before .args .t2) (c .before .before .before .before .before .args .day) (c .before .before .before .before .loop .place)
-tested c = rw (in-order (c .before .before .before .before .loop .place) _ (omega arith)) at (c .in-true-arcs .ensures)
+tested : (c : tie.After-true-arcs-have Inv-loop μ-loop) → c .true-arcs-have .result ≡ placeMet (c .before .before .before .before .before .args .edition) (c .before .before .before .before .before .args .t2) (c .before .before .before .before .before .args .day) (c .before .before .before .before .loop .place)
+tested c =
+    let known = c .before .before .before .before .before .pre in
+    (rw (in-order (c .before .before .before .before .loop .place) _ (omega arith)) at (c .true-arcs-have .ensures)) ∙ rw (known .0, known .1)
 
 returns : tie.Need-returns Inv-loop μ-loop
 returns c = sym (place-not-met _ _ _ (c .before .before .before .before .before .loop .place) (omega arith) (sym (tested (c .before)) ∙ not-true _ (c .if1 .taken)))
@@ -62,8 +64,8 @@ true-arcs-met-spec =
     loop-holds
     mul-of-body
     array-copy-out-of-body
-    array-copy-out-in-true-arcs
-    in-true-arcs-requires
+    array-copy-out-true-arcs-have
+    true-arcs-have-requires
     returns
     add-place
     loop-less

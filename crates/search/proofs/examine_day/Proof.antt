@@ -76,14 +76,11 @@ accepted-requires-3 c κs = search needs
 enum-known-more : tie.Need-enum-known-more
 enum-known-more c = search needs
 
-true-longitude-requires : tie.Need-true-longitude-requires
-true-longitude-requires c κs = search needs
-
-have-requires : tie.Need-have-requires
-have-requires c κs = search needs
+true-arcs-have-requires : tie.Need-true-arcs-have-requires
+true-arcs-have-requires c κs = search needs
 
 add-accepted-4 : tie.Need-add-accepted-4
-add-accepted-4 c = omega (arith, inside (c .before .before .before .before .before .before .before) .low)
+add-accepted-4 c = omega (arith, inside (c .before .before .before .before .before .before) .low)
 
 accepted-requires-4 : tie.Need-accepted-requires-4
 accepted-requires-4 c κs = search needs
@@ -107,7 +104,7 @@ returns-4 : tie.Need-returns-4
 returns-4 c = c .accepted3 .ensures ∙ by-elements _ _ _ (inside (c .before .before .before .before .before .before .before .before .before .before)) _ (c .before .before .before .before .before .before .before .before .before .admit .ensures) _ (c .before .before .before .before .before .before .before .before .if3 .left) (c .before .before .before .before .before .before .before .before .before .before .before .before .before .before .before .before .before .before .pre .1 .0) _ (c .before .before .before .before .before .before .enum-told2 .given .1) (c .before .elements-met .ensures)
 
 returns-5 : tie.Need-returns-5
-returns-5 c = c .accepted4 .ensures ∙ by-place _ _ _ (inside (c .before .before .before .before .before .before .before .before)) _ (c .before .before .before .before .before .before .before .admit .ensures) _ (c .before .before .before .before .before .before .if3 .left) (c .before .before .before .before .before .before .before .before .before .before .before .before .before .before .before .before .pre .1 .0) _ _ _ _ (c .before .before .before .before .more .given .1) (c .before .before .true-longitude .ensures) (c .before .have .ensures)
+returns-5 c = c .accepted4 .ensures ∙ by-place _ _ _ (inside (c .before .before .before .before .before .before .before)) _ (c .before .before .before .before .before .before .admit .ensures) _ (c .before .before .before .before .before .if3 .left) (c .before .before .before .before .before .before .before .before .before .before .before .before .before .before .before .pre .1 .0) _ _ _ (c .before .before .before .more .given .1) (c .before .true-arcs-have .ensures)
 
 returns-6 : tie.Need-returns-6
 returns-6 c = c .accepted5 .ensures ∙ by-more _ _ _ (inside (c .before .before .before .before .before .before)) _ (c .before .before .before .before .before .admit .ensures) _ (c .before .before .before .before .if3 .left) (c .before .others-met .ensures)
@@ -169,14 +166,11 @@ accepted-requires-8 c κs = search needs
 enum-known-more-2 : tie.Need-enum-known-more-2
 enum-known-more-2 c = search needs
 
-true-longitude-requires-2 : tie.Need-true-longitude-requires-2
-true-longitude-requires-2 c κs = search needs
-
-have-requires-2 : tie.Need-have-requires-2
-have-requires-2 c κs = search needs
+true-arcs-have-requires-2 : tie.Need-true-arcs-have-requires-2
+true-arcs-have-requires-2 c κs = search needs
 
 add-accepted-9 : tie.Need-add-accepted-9
-add-accepted-9 c = omega (arith, inside-2 (c .before .before .before .before .before .before .before) .low)
+add-accepted-9 c = omega (arith, inside-2 (c .before .before .before .before .before .before) .low)
 
 accepted-requires-9 : tie.Need-accepted-requires-9
 accepted-requires-9 c κs = search needs
@@ -200,7 +194,7 @@ returns-9 : tie.Need-returns-9
 returns-9 c = c .accepted8 .ensures ∙ by-elements _ _ _ (inside-2 (c .before .before .before .before .before .before .before .before .before .before)) _ (c .before .before .before .before .before .before .before .before .before .admit2 .ensures) _ (c .before .before .before .before .before .before .before .before .if5 .left) (c .before .before .before .before .before .before .before .before .before .before .before .before .before .before .before .before .before .before .before .before .before .pre .1 .0) _ (c .before .before .before .before .before .before .enum-told5 .given .1) (c .before .elements-met2 .ensures)
 
 returns-10 : tie.Need-returns-10
-returns-10 c = c .accepted9 .ensures ∙ by-place _ _ _ (inside-2 (c .before .before .before .before .before .before .before .before)) _ (c .before .before .before .before .before .before .before .admit2 .ensures) _ (c .before .before .before .before .before .before .if5 .left) (c .before .before .before .before .before .before .before .before .before .before .before .before .before .before .before .before .before .before .before .pre .1 .0) _ _ _ _ (c .before .before .before .before .more2 .given .1) (c .before .before .true-longitude2 .ensures) (c .before .have2 .ensures)
+returns-10 c = c .accepted9 .ensures ∙ by-place _ _ _ (inside-2 (c .before .before .before .before .before .before .before)) _ (c .before .before .before .before .before .before .admit2 .ensures) _ (c .before .before .before .before .before .if5 .left) (c .before .before .before .before .before .before .before .before .before .before .before .before .before .before .before .before .before .before .pre .1 .0) _ _ _ (c .before .before .before .more2 .given .1) (c .before .true-arcs-have2 .ensures)
 
 returns-11 : tie.Need-returns-11
 returns-11 c = c .accepted10 .ensures ∙ by-more _ _ _ (inside-2 (c .before .before .before .before .before .before)) _ (c .before .before .before .before .before .admit2 .ensures) _ (c .before .before .before .before .if5 .left) (c .before .others-met2 .ensures)
@@ -246,8 +240,7 @@ examine-day-spec =
     add-accepted-3
     accepted-requires-3
     enum-known-more
-    true-longitude-requires
-    have-requires
+    true-arcs-have-requires
     add-accepted-4
     accepted-requires-4
     enum-told-3
@@ -272,8 +265,7 @@ examine-day-spec =
     add-accepted-8
     accepted-requires-8
     enum-known-more-2
-    true-longitude-requires-2
-    have-requires-2
+    true-arcs-have-requires-2
     add-accepted-9
     accepted-requires-9
     enum-told-6

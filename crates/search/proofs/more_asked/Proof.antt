@@ -50,9 +50,8 @@ array-copy-out-asked c = low (c .before)
 returns-5 : tie.Need-returns-5
 unfolding Asks
 returns-5 c =
-    let one = c .before .before .before .before .before .before .before .before .given-places .ensures .one (c .before .before .if5 .taken) in
     let here = in-order (c .before .before .before .before .before .before .before .before .given-places .result .last) Sun (low (c .before .before)) in
-    (sym (c .before .before .before .before .before .before .before .before .before .before .before .other-arcs-given .ensures) ∙ c .before .before .before .before .before .before .before .before .before .before .if1 .left, sym (c .before .before .before .before .before .before .before .elements-given .ensures) ∙ c .before .before .before .before .before .before .if2 .left, rw here, one .1, rw here (one .2))
+    (sym (c .before .before .before .before .before .before .before .before .before .before .before .other-arcs-given .ensures) ∙ c .before .before .before .before .before .before .before .before .before .before .if1 .left, sym (c .before .before .before .before .before .before .before .elements-given .ensures) ∙ c .before .before .before .before .before .before .if2 .left, rw here, rw here (c .before .before .before .before .before .before .before .before .given-places .ensures .one (c .before .before .if5 .taken) .1))
 
 returns-6 : tie.Need-returns-6
 unfolding Asks
