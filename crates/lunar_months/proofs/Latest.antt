@@ -95,6 +95,35 @@ module _ (list : List ℕ) (starts day : ℕ) where
     pub looking-end : number ≤ 0 → NoStart ≡ lastEntry list day starts
     looking-end h = sym (no-entry list day number h) ∙ l .meant
 
+module _ (list : List ℕ) (starts day number : ℕ) (l : Looking list starts day number) where
+  -- the second of two at a turn
+  module _ (more : 1 < number) (last : ℕ) (e : last ≡ entryDay list (number - 1)) (after : day < last) (before : ℕ) (f : before ≡ entryDay list (number - 2)) where
+    one : Looking list starts day (number - 1)
+    one = looking-on list starts day number l (omega arith) last e after
+
+    same : number - 2 ≡ number - 1 - 1
+    same = omega arith
+
+    pub looking-before : before ≤ day → Start before (number - 1) ≡ lastEntry list day starts
+    looking-before = looking-here list starts day (number - 1) one (omega arith) before (f ∙ ap (entryDay list) same)
+
+    pub looking-two : day < before → Looking list starts day (number - 2)
+    looking-two h = rw same (looking-on list starts day (number - 1) one (omega arith) before (f ∙ ap (entryDay list) same) h)
+
+  -- the one that is left of an odd number
+  module _ (few : number ≤ 1) (some : number ≡ 0 → ⊥) (first : ℕ) (e : first ≡ entryDay list 0) where
+    left : number ≡ 1
+    left = omega (arith, some)
+
+    there : first ≡ entryDay list (number - 1)
+    there = rw left e
+
+    pub looking-first : first ≤ day → Start first 1 ≡ lastEntry list day starts
+    looking-first h = ap (Start first) (sym left) ∙ looking-here list starts day number l (omega (arith, left)) first there h
+
+    pub looking-none : day < first → NoStart ≡ lastEntry list day starts
+    looking-none h = looking-end list starts day (number - 1) (looking-on list starts day number l (omega (arith, left)) first there h) (omega (arith, left))
+
 -- its place is one of them
 pub last-most : (list : List ℕ) (day k : ℕ) → monthNumbers (lastEntry list day k) .number ≤ k
 unfolding lastEntry monthNumbers

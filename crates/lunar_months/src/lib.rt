@@ -8,7 +8,7 @@ ghost use mathlib.Core.Path.{_≡_};
 ghost use mathlib.Core.Bool.{true};
 ghost use Prim.Native.Nat.{_+_, _/_, _≤_, _<_};
 ghost use Rattle.days.specs.Days.{lastDay, inRange};
-ghost use Rattle.entries.specs.Entries.{capacity, withEntriesFrom};
+ghost use Rattle.entries.specs.Entries.{capacity, entryDay, withEntriesFrom};
 ghost use Rattle.longitudes.specs.Longitudes.{longitudeAt};
 ghost use Rattle.panchanga.specs.TrueLongitudes.{isEdition};
 ghost use Rattle.lunar_months.specs.MonthStarts.{tithiOn, monthStarts, monthOn, monthNumbers};
@@ -144,23 +144,49 @@ fn find_starts(edition: u32, covered: u32, days: u32) -> Added
     put_starts(edition, covered, days, 0, &mut no_entry)
 }
 
-// The last of so many entries that is not after the day, from the end on.
+// The day of an entry that the list has.
+fn start_at(list: &[u8], index: usize) -> u32
+    requires { ⌜ index < capacity (now list) ⌝ }
+    ensures { λ r. ⌜ r ≡ entryDay (now (list .entry)) index ⌝ }
+{
+    let at = ENTRY_BYTES * index;
+    let a = list[at];
+    let b = list[at + 1];
+    let c = list[at + 2];
+    let d = list[at + 3];
+    entries::day_of([a, b, c, d])
+}
+
+// The last of so many entries that is not after the day, from the end on, two at a turn: with one, a processor may wait
+// for the count longer than for the entry.
 fn last_entry(list: &[u8], starts: usize, day: u32) -> MonthAt
     requires { ⌜ starts ≤ capacity (now list) ⌝ }
     ensures { λ r. ⌜ r ≡ lastEntry (now (list .entry)) day starts ⌝ }
 {
     let mut number = starts;
-    while 0 < number {
-        let at = ENTRY_BYTES * (number - 1);
-        let a = list[at];
-        let b = list[at + 1];
-        let c = list[at + 2];
-        let d = list[at + 3];
-        let start = entries::day_of([a, b, c, d]);
-        if start <= day {
-            return MonthAt::Start { day: start, number };
+    while 1 < number {
+        let last = start_at(list, number - 1);
+        if last <= day {
+            return MonthAt::Start { day: last, number };
         }
-        number -= 1;
+        let before = start_at(list, number - 2);
+        if before <= day {
+            return MonthAt::Start {
+                day: before,
+                number: number - 1,
+            };
+        }
+        number -= 2;
+    }
+    if number == 0 {
+        return MonthAt::NoStart;
+    }
+    let first = start_at(list, 0);
+    if first <= day {
+        return MonthAt::Start {
+            day: first,
+            number: 1,
+        };
     }
     MonthAt::NoStart
 }
