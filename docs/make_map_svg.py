@@ -14,7 +14,7 @@ import sys
 ROOT = pathlib.Path(__file__).resolve().parent.parent
 PICTURE = ROOT / "docs/map.svg"
 
-UNDER_ALL = "days integers entries text words input output".split()
+UNDER_ALL = "days integers entries text words names input output".split()
 READS = "values page question span_line date_lines".split()
 RECKONS = "civil iso saka longitudes panchanga planets older_motions arms records query search lunar_months reasons blocks almanac zodiac".split()
 PRINTS = "dated remarks sheet month_sheet almanac_sheet plate messages drift_sheet catalogue explanation lunar_month_sheet sign_sheet reply conversion".split()

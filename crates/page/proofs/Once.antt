@@ -11,7 +11,7 @@ use lib.ListN.{length, getD, set, length-set}
 use Rattle.days.specs.Refusals.{badInput}
 use Rattle.text.specs.Lines.{newline}
 use Rattle.values.proofs.Refusals.{either}
-use Rattle.words.specs.Words.{hash, runLength, upTo, trimmed, firstWord, afterWord, afterWords, pieces, sameBytes, placeIn}
+use Rattle.words.specs.Words.{hash, runLength, upTo, trimmed, firstWord, afterWord, afterWords, pieces, sameBytes, smallFrom, placeIn}
 use Rattle.page.specs.Names.{keywords}
 use Rattle.page.specs.declared.Fault.{Fault}
 use Rattle.page.specs.declared.LineRead.{LineRead}
@@ -45,7 +45,7 @@ absent-set (b ∷ bs) zero h e = rw e (omega arith)
 absent-set (b ∷ bs) (suc k) h e = omega (arith, absent-set bs k (omega arith) e)
 
 no-word : (name : List ℕ) → length name ≡ 0 → placeIn keywords name ≡ keywordCount
-unfolding placeIn sameBytes
+unfolding placeIn sameBytes smallFrom
 no-word [] h = refl
 no-word (b ∷ bs) h = absurd (omega arith)
 
@@ -135,7 +135,7 @@ line-once p n l all sound = go (leb keywordCount (l .keyword)) refl
 
 -- what is behind the last newline is no line
 last-line : (p : Page) (n : ℕ) (l : List ℕ) → withLines p n (l ∷ []) .fault .refusal ≡ 0 → ofKeyword (lineKeyword l) ≡ 0
-unfolding withLines upTo trimmed runLength placeIn sameBytes
+unfolding withLines upTo trimmed runLength placeIn sameBytes smallFrom
 last-line p n [] r = refl
 last-line p n (b ∷ bs) r =
     let none = first-fault-latter (p .fault) (record { refusal = badInput; reason = notEnded; line = n }) (ranked-all .2) (rw (ne-eqb (length (b ∷ bs)) 0 (λ z. omega arith)) at r) in

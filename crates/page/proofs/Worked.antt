@@ -19,7 +19,7 @@ use Rattle.text.specs.Decimal.{isDigit, allDigits, withDigit, valueOf, isNumber
 use Rattle.days.specs.Days.{lastDay}
 use Rattle.days.specs.Weekdays.{inSet}
 use Rattle.values.specs.Values.{threeRead, sexagesimalRead, numberOr, angleRead, dayRead, weekdayRead, withWeekday, inNumbers, withNumberRead, withWord, setRead, setOf, noneRead}
-use Rattle.words.specs.Words.{isSeparator, runLength, upTo, afterFirst, trimmed, afterWords, inFront, pieces, sameBytes, placeIn}
+use Rattle.words.specs.Words.{isSeparator, runLength, upTo, afterFirst, trimmed, afterWords, inFront, pieces, sameBytes, behindMark, smallByte, smallFrom, placeIn}
 use Rattle.page.specs.declared.PageRead.{PageRead}
 use Rattle.page.specs.Page.{isElement, onlySpan, everyDay, withCondition, rankOf, ranksBefore, firstRefusal, firstValue, secondValue, numbersRead, arcRead, secondArcRead, arcsRead, mostValues, valuesRead, unknownWord, manyValues, badValue, repeatedWord, notEnded, conditionRead, wordsRead, lineRead, firstFault, withLine, withLines, pageAnswer, pageRead}
 
@@ -91,14 +91,14 @@ pub worked :
     pageRead (ascii "")
     ∷ pageRead (ascii "span 5 9\nweekday monday # ?\n\nsun 0:0:0 3600\nedition 2\n")
     ∷ pageRead (ascii "yoga 27\n")
-    ∷ pageRead (ascii "span 9 5\nYoga 1\n")
+    ∷ pageRead (ascii "span 9 5\nYogas 1\n")
     ∷ pageRead (ascii "yoga 27\nspan 9 5\n")
-    ∷ pageRead (ascii "yoga 1\nyoga 1\n")
+    ∷ pageRead (ascii "yoga 1\nYOGA 1\n")
     ∷ pageRead (ascii "yoga 1")
     ∷ pageRead (ascii "edition 1\n")
     ∷ pageRead (ascii "nothing\nedition 3\nspan 9 5\n")
     ∷ pageRead (ascii "edition 2\nedition 3\n")
-    ∷ pageRead (ascii "weekday 6 tuesday monday\nspan 5 9\nsun 0 3600 2:0:0 3600\n")
+    ∷ pageRead (ascii "Weekday 6 TUESDAY Monday\nspan 5 9\nSun 0 3600 2:0:0 3600\n")
     ∷ pageRead (ascii "weekday 1 tuesday\n")
     ∷ pageRead (ascii "weekday 7 1\n")
     ∷ pageRead (ascii "weekday\n")
@@ -123,5 +123,5 @@ pub worked :
     ∷ pageRead (ascii "yoga 0 1 2 3 4 5 6 7 8 9 10 11 12 13 14 15 16 17 18 19 20 21 22 23 24 25 26 27 28 29 30\n")
     ∷ []
     ≡ accepts everyDay ∷ accepts fourDays ∷ refuses 6 0 1 ∷ refuses 3 unknownWord 2 ∷ refuses 5 0 2 ∷ refuses 3 repeatedWord 2 ∷ refuses 3 notEnded 1 ∷ accepts everyDay ∷ refuses 14 0 2 ∷ refuses 14 0 2 ∷ accepts eitherArc ∷ refuses 3 badValue 1 ∷ refuses 6 0 1 ∷ refuses 3 badValue 1 ∷ refuses 3 manyValues 1 ∷ refuses 3 badValue 1 ∷ refuses 3 manyValues 1 ∷ refuses 6 0 1 ∷ accepts fullMoon ∷ accepts anyTithi ∷ accepts elementSets ∷ accepts truePlaces ∷ refuses 3 badValue 1 ∷ refuses 3 badValue 1 ∷ refuses 6 0 1 ∷ refuses 6 0 1 ∷ refuses 3 badValue 1 ∷ refuses 3 badValue 1 ∷ refuses 6 0 1 ∷ refuses 6 0 1 ∷ refuses 3 unknownWord 1 ∷ refuses 6 0 1 ∷ refuses 3 manyValues 1 ∷ []
-unfolding isSeparator runLength upTo afterFirst trimmed afterWords inFront pieces sameBytes placeIn isDigit allDigits withDigit valueOf isNumber numberRead threeRead sexagesimalRead numberOr angleRead dayRead weekdayRead inSet withWeekday hasNumber withNumber inNumbers withNumberRead withWord setRead setOf noneRead isEdition numbersInRange weekdaysInRange arcInRange bodyArcsInRange arcsInRange trueArcsInRange elementsInRange conditionsInRange refusalOf isElement withCondition rankOf ranksBefore firstRefusal firstValue secondValue numbersRead arcRead secondArcRead arcsRead mostValues valuesRead conditionRead wordsRead lineRead firstFault withLine withLines pageAnswer pageRead
+unfolding isSeparator runLength upTo afterFirst trimmed afterWords inFront pieces sameBytes behindMark smallByte smallFrom placeIn isDigit allDigits withDigit valueOf isNumber numberRead threeRead sexagesimalRead numberOr angleRead dayRead weekdayRead inSet withWeekday hasNumber withNumber inNumbers withNumberRead withWord setRead setOf noneRead isEdition numbersInRange weekdaysInRange arcInRange bodyArcsInRange arcsInRange trueArcsInRange elementsInRange conditionsInRange refusalOf isElement withCondition rankOf ranksBefore firstRefusal firstValue secondValue numbersRead arcRead secondArcRead arcsRead mostValues valuesRead conditionRead wordsRead lineRead firstFault withLine withLines pageAnswer pageRead
 worked = refl

@@ -1,10 +1,10 @@
 -- What is said fits a line: what makes something likely bounds its numbers, and a keyword is short. Assumes nothing.
 use Prim.Native.Nat.{ℕ, suc, _+_, _*_, _%_, _≤_, _<_}
 use mathlib.Core.Path.{_≡_, refl}
-use mathlib.Core.Bool.{Bool, true, false, cond, _&&_, and-eq-true-iff, false≢true}
+use mathlib.Core.Bool.{Bool, true, false, cond, _&&_, and-eq-true-iff}
 use mathlib.Core.List.{List, [], _∷_}
 use native.Mathlib.Omega.{arith}
-use lib.Dec.{eqb, leb, ltb}
+use lib.Dec.{leb, ltb}
 use lib.ListN.{length, length-append}
 use borrow.Author.Tests.{ltb-true, leb-true}
 use Rattle.dated.proofs.Laws.{date-short, angle-digits, angle-short}
@@ -16,7 +16,8 @@ use Rattle.text.specs.Decimal.{numberRead}
 use Rattle.text.specs.Lines.{lineCapacity}
 use Rattle.text.proofs.Printing.{digits-length}
 use Rattle.values.specs.Values.{isRead, angleRead}
-use Rattle.words.specs.Words.{sameBytes, placeIn}
+use Rattle.words.specs.Words.{sameBytes, small, placeIn}
+use Rattle.words.proofs.Letters.{name-as-long}
 use Rattle.words.proofs.Names.{noLonger}
 use Rattle.remarks.specs.Remarks.{lineText, arcText, secondsText, widthText, numbersText, daysText, likelyDegrees, likelyEnd, likelyYear, arcRemark, spanRemark}
 
@@ -40,23 +41,16 @@ unfolding likelyYear
 year-true n e = leb-true n 2619 (and-eq-true-iff (leb 1000 n) (leb n 2619) .0 e .1)
 
 -- ---- a word is as short as the longest name
-same-length : (s t : List ℕ) → sameBytes s t ≡ true → length s ≡ length t
-unfolding sameBytes
-same-length [] [] e = refl
-same-length [] (b ∷ t) e = absurd (false≢true e)
-same-length (a ∷ s) [] e = absurd (false≢true e)
-same-length (a ∷ s) (b ∷ t) e = omega (arith, same-length s t (and-eq-true-iff (eqb a b) (sameBytes s t) .0 e .1))
-
 place-short : (most : ℕ) (ns : List (List ℕ)) (w : List ℕ) → noLonger most ns ≡ true → placeIn ns w < length ns → length w ≤ most
 unfolding placeIn noLonger
 place-short most [] w e h = absurd (omega arith)
-place-short most (n ∷ ns) w e h = go (sameBytes n w) refl (place-short most ns w (fits .1)) h
+place-short most (n ∷ ns) w e h = go (sameBytes n (small w)) refl (place-short most ns w (fits .1)) h
   where
     fits : (leb (length n) most ≡ true) × (noLonger most ns ≡ true)
     fits = and-eq-true-iff (leb (length n) most) (noLonger most ns) .0 e
 
-    go : (t : Bool) → sameBytes n w ≡ t → (placeIn ns w < length ns → length w ≤ most) → cond t 0 (suc (placeIn ns w)) < suc (length ns) → length w ≤ most
-    go true same later k = omega (arith, same-length n w same, leb-true (length n) most (fits .0))
+    go : (t : Bool) → sameBytes n (small w) ≡ t → (placeIn ns w < length ns → length w ≤ most) → cond t 0 (suc (placeIn ns w)) < suc (length ns) → length w ≤ most
+    go true same later k = omega (arith, name-as-long n w same, leb-true (length n) most (fits .0))
     go false same later k = later (omega arith)
 
 pub keyword-short : (w : List ℕ) → placeIn keywords w < keywordCount → length w ≤ 12

@@ -14,7 +14,7 @@ use Rattle.page.specs.Page.{pageRead}
 use Rattle.text.specs.Lines.{newline}
 use Rattle.text.specs.Sheets.{putAt}
 use Rattle.text.proofs.Sheets.{put-length}
-use Rattle.words.specs.Words.{runLength, upTo, trimmed, afterFirst, pieces, sameBytes, placeIn}
+use Rattle.words.specs.Words.{runLength, upTo, trimmed, afterFirst, pieces, sameBytes, smallFrom, placeIn}
 use Rattle.words.proofs.Pieces.{laterPieces, pieces-first}
 use Rattle.remarks.specs.Remarks.{hasArcs, firstRemark, secondRemark, lineRemarks, linesRemarks, asks, someAsks, nothingAsked, lastRemark, pageRemarks, remarksOf, remarksRoom}
 use Rattle.remarks.proofs.Putting.{put-none, put-behind}
@@ -48,11 +48,11 @@ later g e rest = go (ltb (runLength false newline rest) (length rest)) refl
     go false h = sym e ∙ ap (λ (s : List ℕ). g (pieces newline s)) (sym (nothing-after rest h))
 
 empty-said : (n : ℕ) → linesRemarks n ([] ∷ []) ≡ []
-unfolding linesRemarks lineRemarks firstRemark secondRemark hasArcs upTo trimmed runLength placeIn sameBytes
+unfolding linesRemarks lineRemarks firstRemark secondRemark hasArcs upTo trimmed runLength placeIn sameBytes smallFrom
 empty-said n = refl
 
 empty-asks : someAsks ([] ∷ []) ≡ false
-unfolding someAsks asks upTo trimmed runLength placeIn sameBytes
+unfolding someAsks asks upTo trimmed runLength placeIn sameBytes smallFrom
 empty-asks = refl
 
 none-said : (n : ℕ) → linesRemarks n [] ≡ []

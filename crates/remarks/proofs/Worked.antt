@@ -13,7 +13,7 @@ use Rattle.query.specs.Query.{refusalOf}
 use Rattle.text.specs.Ascii.{ascii}
 use Rattle.text.specs.Decimal.{isDigit, allDigits, withDigit, valueOf, isNumber, numberRead, digitsWithin, digitsOf}
 use Rattle.values.specs.Values.{threeRead, sexagesimalRead, numberOr, angleRead, dayRead, weekdayRead, withWeekday, inNumbers, withNumberRead, withWord, setRead, setOf, noneRead}
-use Rattle.words.specs.Words.{isSeparator, runLength, upTo, afterFirst, trimmed, afterWords, inFront, pieces, sameBytes, placeIn}
+use Rattle.words.specs.Words.{isSeparator, runLength, upTo, afterFirst, trimmed, afterWords, inFront, pieces, sameBytes, behindMark, smallByte, smallFrom, placeIn}
 use Rattle.remarks.specs.Remarks.{lineText, arcText, secondsText, widthText, numbersText, daysText, likelyDegrees, likelyEnd, likelyYear, arcRemark, spanRemark, hasArcs, firstRemark, secondRemark, lineRemarks, linesRemarks, asks, someAsks, nothingAsked, lastRemark, remarksOf}
 
 pub worked :
@@ -31,5 +31,5 @@ pub worked :
     ∷ []
     ∷ []
     ∷ []
-unfolding leap monthDays sameDate next dateOn dateOfDay dateBytes angleBytes digitsWithin digitsOf isSeparator runLength upTo afterFirst trimmed afterWords inFront pieces sameBytes placeIn isDigit allDigits withDigit valueOf isNumber numberRead threeRead sexagesimalRead numberOr angleRead dayRead weekdayRead inSet withWeekday hasNumber withNumber inNumbers withNumberRead withWord setRead setOf noneRead isEdition numbersInRange weekdaysInRange arcInRange bodyArcsInRange arcsInRange trueArcsInRange elementsInRange conditionsInRange refusalOf isElement withCondition rankOf ranksBefore firstRefusal firstValue secondValue numbersRead arcRead secondArcRead arcsRead mostValues valuesRead conditionRead wordsRead lineRead firstFault withLine withLines pageAnswer pageRead lineText arcText secondsText widthText numbersText daysText likelyDegrees likelyEnd likelyYear arcRemark spanRemark hasArcs firstRemark secondRemark lineRemarks linesRemarks asks someAsks nothingAsked lastRemark remarksOf
+unfolding leap monthDays sameDate next dateOn dateOfDay dateBytes angleBytes digitsWithin digitsOf isSeparator runLength upTo afterFirst trimmed afterWords inFront pieces sameBytes behindMark smallByte smallFrom placeIn isDigit allDigits withDigit valueOf isNumber numberRead threeRead sexagesimalRead numberOr angleRead dayRead weekdayRead inSet withWeekday hasNumber withNumber inNumbers withNumberRead withWord setRead setOf noneRead isEdition numbersInRange weekdaysInRange arcInRange bodyArcsInRange arcsInRange trueArcsInRange elementsInRange conditionsInRange refusalOf isElement withCondition rankOf ranksBefore firstRefusal firstValue secondValue numbersRead arcRead secondArcRead arcsRead mostValues valuesRead conditionRead wordsRead lineRead firstFault withLine withLines pageAnswer pageRead lineText arcText secondsText widthText numbersText daysText likelyDegrees likelyEnd likelyYear arcRemark spanRemark hasArcs firstRemark secondRemark lineRemarks linesRemarks asks someAsks nothingAsked lastRemark remarksOf
 worked = refl

@@ -22,7 +22,7 @@ use Rattle.text.specs.Decimal.{isDigit, allDigits, withDigit, valueOf, isNumber
 use Rattle.text.specs.Lines.{spaced, refusalLine}
 use Rattle.text.specs.Sheets.{joined}
 use Rattle.values.specs.Values.{threeRead, numberOr, dateRead, dayRead}
-use Rattle.words.specs.Words.{isSeparator, runLength, upTo, afterFirst, trimmed, afterWords, inFront, pieces, sameBytes, placeIn, nameAt}
+use Rattle.words.specs.Words.{isSeparator, runLength, upTo, afterFirst, trimmed, afterWords, inFront, pieces, sameBytes, behindMark, smallByte, smallFrom, placeIn, nameAt}
 use Rattle.zodiac.specs.Zodiac.{sunAt, entersOn, signEntries}
 use Rattle.sign_sheet.specs.SignSheets.{signHeading, signLine, signLines, sunMeant, signsPrinted}
 
@@ -54,5 +54,5 @@ pub worked :
     ∷ ascii "refused 3\n"
     ∷ ascii "refused 3\n"
     ∷ []
-unfolding isSeparator runLength upTo afterFirst trimmed afterWords inFront pieces sameBytes placeIn nameAt isDigit allDigits withDigit valueOf isNumber numberRead digitsWithin digitsOf spaced refusalLine threeRead numberOr dateRead dayRead isEdition numbersInRange weekdaysInRange arcInRange bodyArcsInRange arcsInRange trueArcsInRange elementsInRange conditionsInRange spanRefusal dayOf refusalOf isElement withCondition rankOf ranksBefore firstRefusal firstValue secondValue numbersRead mostValues valuesRead conditionRead wordsRead lineRead bothDays spanLine isOneLine isMarked markedLine markedInput leap monthDays sameDate next dateOn dateOfDay dateBytes dayBytes namedDayBytes daysFrom filtered floorOver reduced table meanLongitude longitudeAt differenceOf bhuja equation signed corrected trueLongitude trueSunAt sunAt entersOn signEntries signHeading signLine signLines sunMeant joined
+unfolding isSeparator runLength upTo afterFirst trimmed afterWords inFront pieces sameBytes behindMark smallByte smallFrom placeIn nameAt isDigit allDigits withDigit valueOf isNumber numberRead digitsWithin digitsOf spaced refusalLine threeRead numberOr dateRead dayRead isEdition numbersInRange weekdaysInRange arcInRange bodyArcsInRange arcsInRange trueArcsInRange elementsInRange conditionsInRange spanRefusal dayOf refusalOf isElement withCondition rankOf ranksBefore firstRefusal firstValue secondValue numbersRead mostValues valuesRead conditionRead wordsRead lineRead bothDays spanLine isOneLine isMarked markedLine markedInput leap monthDays sameDate next dateOn dateOfDay dateBytes dayBytes namedDayBytes daysFrom filtered floorOver reduced table meanLongitude longitudeAt differenceOf bhuja equation signed corrected trueLongitude trueSunAt sunAt entersOn signEntries signHeading signLine signLines sunMeant joined
 worked = refl

@@ -21,7 +21,7 @@ use Rattle.text.specs.Inputs.{tooLong}
 use Rattle.text.specs.Lines.{newline}
 use Rattle.values.specs.Values.{dayRead}
 use Rattle.values.proofs.Refusals.{either}
-use Rattle.words.specs.Words.{hash, isSeparator, runLength, upTo, afterFirst, trimmed, firstWord, afterWord, afterWords, sameBytes, placeIn}
+use Rattle.words.specs.Words.{hash, isSeparator, runLength, upTo, afterFirst, trimmed, firstWord, afterWord, afterWords, sameBytes, behindMark, smallByte, smallFrom, placeIn}
 use Rattle.words.proofs.Runs.{run-le}
 use Rattle.span_line.specs.declared.Span.{Span}
 use Rattle.span_line.specs.SpanLine.{theSpan, noSpan, bothDays, spanLine, isOneLine, spanRead, spanInput}
@@ -64,7 +64,7 @@ words-are :
     (l : List ℕ) →
     lineRead (ascii "span " ++ l)
     ≡ cond (eqb (length (firstWord (afterWord (afterWord (upTo hash l))))) 0) (conditionRead spanKeyword (valuesRead spanKeyword (upTo hash l))) (malformedLine manyValues)
-unfolding lineRead wordsRead isElement mostValues isSeparator runLength upTo afterFirst trimmed afterWords sameBytes placeIn
+unfolding lineRead wordsRead isElement mostValues isSeparator runLength upTo afterFirst trimmed afterWords sameBytes behindMark smallByte smallFrom placeIn
 words-are l = refl
 
 values-are : (t : List ℕ) → valuesRead spanKeyword t ≡ numbersRead (dayRead (firstWord t)) (dayRead (firstWord (afterWord t)))

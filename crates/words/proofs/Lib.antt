@@ -1,4 +1,5 @@
 pub mod Runs
 pub mod Pieces
+pub mod Letters
 pub mod Places
 pub mod Names

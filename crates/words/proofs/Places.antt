@@ -1,48 +1,21 @@
 -- The place of a word among names, found piece by piece: before each piece, the names passed are others, and the word's
 -- place among those ahead is what is left to count. Assumes nothing.
-use mathlib.Core.Path.{_≡_, refl, ap, sym, _∙_}
-use mathlib.Core.Bool.{Bool, true, false, cond, false≢true, and-eq-true-iff}
+use mathlib.Core.Path.{_≡_, refl, ap, _∙_}
+use mathlib.Core.Bool.{Bool, true, false, cond}
 use mathlib.Core.List.{List, [], _∷_, _++_}
 use Prim.Native.Nat.{ℕ, suc, _+_, _≤_, _<_}
 use native.Mathlib.Omega.{arith}
-use borrow.Author.Tests.{eqb-true, eq-eqb}
-use lib.Dec.{eqb}
 use lib.ListN.{length}
 use Rattle.text.specs.Lines.{space}
-use Rattle.words.specs.Words.{runLength, upTo, afterFirst, pieces, sameBytes, placeIn}
+use Rattle.words.specs.Words.{runLength, upTo, afterFirst, pieces, sameBytes, small, placeIn}
 use Rattle.words.proofs.Runs.{run-le}
 use Rattle.words.proofs.Pieces.{laterPieces, pieces-first, pieces-last, pieces-more, up-to-whole, after-shorter}
 
-same-refl : (s : List ℕ) → sameBytes s s ≡ true
-unfolding sameBytes
-same-refl [] = refl
-same-refl (a ∷ s) = rw (eq-eqb a a refl, same-refl s)
-
-same-eq : (s t : List ℕ) → sameBytes s t ≡ true → s ≡ t
-unfolding sameBytes
-same-eq [] [] e = refl
-same-eq [] (b ∷ t) e = absurd (false≢true e)
-same-eq (a ∷ s) [] e = absurd (false≢true e)
-same-eq (a ∷ s) (b ∷ t) e =
-    let both = and-eq-true-iff (eqb a b) (sameBytes s t) .0 e in
-    let head = eqb-true a b (both .0) in
-    let rest = same-eq s t (both .1) in
-    cc
-
--- a test that holds just of equal lists is `same`
-same-is : (r : Bool) (s t : List ℕ) → (r ≡ true → s ≡ t) → (s ≡ t → r ≡ true) → r ≡ sameBytes s t
-same-is true s t f g = sym (rw (f refl) (same-refl t))
-same-is false s t f g = go (sameBytes s t) refl
-  where
-    go : (u : Bool) → sameBytes s t ≡ u → false ≡ sameBytes s t
-    go true e = g (same-eq s t e) ∙ sym e
-    go false e = sym e
-
-place-here : (n : List ℕ) (ns : List (List ℕ)) (w : List ℕ) → sameBytes n w ≡ true → placeIn (n ∷ ns) w ≡ 0
+place-here : (n : List ℕ) (ns : List (List ℕ)) (w : List ℕ) → sameBytes n (small w) ≡ true → placeIn (n ∷ ns) w ≡ 0
 unfolding placeIn
 place-here n ns w e = rw e
 
-place-later : (n : List ℕ) (ns : List (List ℕ)) (w : List ℕ) → sameBytes n w ≡ false → placeIn (n ∷ ns) w ≡ suc (placeIn ns w)
+place-later : (n : List ℕ) (ns : List (List ℕ)) (w : List ℕ) → sameBytes n (small w) ≡ false → placeIn (n ∷ ns) w ≡ suc (placeIn ns w)
 unfolding placeIn
 place-later n ns w e = rw e
 
@@ -62,21 +35,21 @@ placing-start names word = record { count = omega arith; room = omega arith }
 pub first-same :
     (word rest got : List ℕ) (r : Bool) →
     got ≡ upTo space rest →
-    (r ≡ true → got ≡ word) × (got ≡ word → r ≡ true) →
-    r ≡ sameBytes (upTo space rest) word
-first-same word rest got r e h = same-is r got word (h .0) (h .1) ∙ ap (λ s. sameBytes s word) e
+    r ≡ sameBytes got (small word) →
+    r ≡ sameBytes (upTo space rest) (small word)
+first-same word rest got r e h = h ∙ ap (λ s. sameBytes s (small word)) e
 
 module _ (names word : List ℕ) (place : ℕ) (rest : List ℕ) (p : Placing names word place rest) where
   abbrev first : List ℕ
   first = upTo space rest
 
-  pub placing-found : sameBytes first word ≡ true → place ≡ placeIn (pieces space names) word
+  pub placing-found : sameBytes first (small word) ≡ true → place ≡ placeIn (pieces space names) word
   placing-found e =
       let here = ap (λ ps. placeIn ps word) (pieces-first space rest) ∙ place-here first (laterPieces space rest) word e in
       omega (arith, p .count)
 
   pub placing-end :
-      sameBytes first word ≡ false →
+      sameBytes first (small word) ≡ false →
       runLength false space rest ≡ length rest →
       place + 1 ≡ placeIn (pieces space names) word
   placing-end e end =
@@ -85,7 +58,7 @@ module _ (names word : List ℕ) (place : ℕ) (rest : List ℕ) (p : Placing na
       omega (arith, p .count, place-nowhere word)
 
   pub placing-next :
-      sameBytes first word ≡ false →
+      sameBytes first (small word) ≡ false →
       (runLength false space rest ≡ length rest → ⊥) →
       Placing names word (place + 1) (afterFirst space rest)
   placing-next e more =
@@ -97,7 +70,7 @@ module _ (names word : List ℕ) (place : ℕ) (rest : List ℕ) (p : Placing na
 pub place-most : (ns : List (List ℕ)) (w : List ℕ) → placeIn ns w ≤ length ns
 unfolding placeIn
 place-most [] w = omega arith
-place-most (n ∷ ns) w = go (sameBytes n w) (place-most ns w)
+place-most (n ∷ ns) w = go (sameBytes n (small w)) (place-most ns w)
   where
     go : (t : Bool) → placeIn ns w ≤ length ns → cond t 0 (suc (placeIn ns w)) ≤ suc (length ns)
     go true h = omega arith
@@ -107,17 +80,17 @@ place-most (n ∷ ns) w = go (sameBytes n w) (place-most ns w)
 pub place-before : (ms ns : List (List ℕ)) (w : List ℕ) → placeIn ms w < length ms → placeIn ms w ≡ placeIn (ms ++ ns) w
 unfolding placeIn
 place-before [] ns w h = absurd (omega arith)
-place-before (m ∷ ms) ns w h = go (sameBytes m w) refl (place-before ms ns w)
+place-before (m ∷ ms) ns w h = go (sameBytes m (small w)) refl (place-before ms ns w)
   where
-    go : (t : Bool) → sameBytes m w ≡ t → (placeIn ms w < length ms → placeIn ms w ≡ placeIn (ms ++ ns) w) → cond (sameBytes m w) 0 (suc (placeIn ms w)) ≡ cond (sameBytes m w) 0 (suc (placeIn (ms ++ ns) w))
+    go : (t : Bool) → sameBytes m (small w) ≡ t → (placeIn ms w < length ms → placeIn ms w ≡ placeIn (ms ++ ns) w) → cond (sameBytes m (small w)) 0 (suc (placeIn ms w)) ≡ cond (sameBytes m (small w)) 0 (suc (placeIn (ms ++ ns) w))
     go true e f = rw e
     go false e f = rw e (ap suc (f (omega (arith, rw e at h))))
 
 pub place-behind : (ms ns : List (List ℕ)) (w : List ℕ) → length ms ≤ placeIn ms w → length ms + placeIn ns w ≡ placeIn (ms ++ ns) w
 unfolding placeIn
 place-behind [] ns w h = omega arith
-place-behind (m ∷ ms) ns w h = go (sameBytes m w) refl (place-behind ms ns w)
+place-behind (m ∷ ms) ns w h = go (sameBytes m (small w)) refl (place-behind ms ns w)
   where
-    go : (t : Bool) → sameBytes m w ≡ t → (length ms ≤ placeIn ms w → length ms + placeIn ns w ≡ placeIn (ms ++ ns) w) → suc (length ms) + placeIn ns w ≡ cond (sameBytes m w) 0 (suc (placeIn (ms ++ ns) w))
+    go : (t : Bool) → sameBytes m (small w) ≡ t → (length ms ≤ placeIn ms w → length ms + placeIn ns w ≡ placeIn (ms ++ ns) w) → suc (length ms) + placeIn ns w ≡ cond (sameBytes m (small w)) 0 (suc (placeIn (ms ++ ns) w))
     go true e f = absurd (omega (arith, rw e at h))
     go false e f = rw e (omega (arith, f (omega (arith, rw e at h))))

@@ -1,10 +1,10 @@
--- How a text is split into lines, and a line into words.
+-- How a text is split into lines, and a line into words; and the place of a word among names, in any letter case.
 -- Assumes nothing.
 use mathlib.Core.Bool.{Bool, true, false, cond, not, _&&_, _||_}
 use mathlib.Core.List.{List, [], _∷_}
-use Prim.Native.Nat.{ℕ, zero, suc}
+use Prim.Native.Nat.{ℕ, zero, suc, _+_, _%_}
 use Prim.Native.Char.{code}
-use lib.Dec.{eqb}
+use lib.Dec.{eqb, leb, ltb}
 use lib.ListN.{getD, take, drop}
 use Rattle.text.specs.Lines.{space}
 
@@ -18,9 +18,9 @@ dash = code "-"
 abbrev pub colon : ℕ
 colon = code ":"
 
--- a byte separates; where the separator is a space, a tab and a carriage return do so too
+-- a byte separates; where the separator is a space, a tab, a carriage return and a comma do so too
 unfoldable pub isSeparator : ℕ → ℕ → Bool
-isSeparator s b = eqb b s || (eqb s space && (eqb b (code "\t") || eqb b (code "\r")))
+isSeparator s b = eqb b s || (eqb s space && (eqb b (code "\t") || (eqb b (code "\r") || eqb b (code ","))))
 
 -- a byte is a separator, or it is none
 abbrev pub inRun : Bool → ℕ → ℕ → Bool
@@ -70,10 +70,33 @@ sameBytes [] (b ∷ bs) = false
 sameBytes (a ∷ s) [] = false
 sameBytes (a ∷ s) (b ∷ bs) = eqb a b && sameBytes s bs
 
--- the place of a word among names, counted from 0; of a word that is none of them, how many names there are
+-- A letter with a mark is two or three bytes in UTF-8, and of these the last tells a capital from its small letter: ñ
+-- is 195 177; ā, ī, ū and ś are 196 or 197 and an odd byte; ṛ, ṣ and the like are 225, 184 or 185, and an odd byte.
+-- Such a capital's last byte is the even one below, and that of Ñ is 32 below, as a plain capital is.
+unfoldable pub behindMark : ℕ → Bool
+behindMark before = (eqb before 184 || eqb before 185) || (eqb before 196 || eqb before 197)
+
+-- a byte of a word in small letters, by the byte before it
+unfoldable pub smallByte : ℕ → ℕ → ℕ
+smallByte before b =
+    cond (ltb b (code "A")) b
+    (cond (leb b (code "Z")) (b + 32)
+    (cond (ltb b 128) b
+    (cond (eqb before 195) (cond (ltb b 160) (b + 32) b) (cond (behindMark before && eqb (b % 2) 0) (b + 1) b))))
+
+-- a word in small letters
+unfoldable pub smallFrom : ℕ → List ℕ → List ℕ
+smallFrom before [] = []
+smallFrom before (b ∷ bs) = smallByte before b ∷ smallFrom b bs
+
+abbrev pub small : List ℕ → List ℕ
+small w = smallFrom 0 w
+
+-- the place of a word among names, counted from 0, which are in small letters; of a word that is none of them, how many
+-- names there are
 unfoldable pub placeIn : List (List ℕ) → List ℕ → ℕ
 placeIn [] w = 0
-placeIn (n ∷ ns) w = cond (sameBytes n w) 0 (suc (placeIn ns w))
+placeIn (n ∷ ns) w = cond (sameBytes n (small w)) 0 (suc (placeIn ns w))
 
 -- the name at a place, empty where there is none
 unfoldable pub nameAt : List (List ℕ) → ℕ → List ℕ

@@ -2,7 +2,7 @@
 ghost use mathlib.Core.Path.{_≡_};
 ghost use Rattle.text.specs.Lines.{space};
 ghost use Rattle.words.specs.Names.{weekdayNames, bodyNames, trueNames};
-ghost use Rattle.words.specs.Words.{isSeparator, inRun, runLength, upTo, afterFirst, trimmed, firstWord, afterWord, afterWords, pieces, placeIn, nameAt};
+ghost use Rattle.words.specs.Words.{isSeparator, inRun, runLength, upTo, afterFirst, trimmed, firstWord, afterWord, afterWords, pieces, behindMark, smallByte, small, sameBytes, placeIn, nameAt};
 
 pub const WEEKDAYS: [u8; 56] = *b"monday tuesday wednesday thursday friday saturday sunday";
 
@@ -11,7 +11,7 @@ pub const BODY_NAMES: [u8; 54] = *b"sun moon apogee node mars mercury jupiter ve
 pub const TRUE_NAMES: [u8; 77] =
     *b"true_sun true_moon true_mars true_mercury true_jupiter true_venus true_saturn";
 
-// Where the separator is a space, a tab and a carriage return separate too.
+// Where the separator is a space, a tab, a carriage return and a comma separate too.
 fn separates(separator: u8, b: u8) -> bool
     ensures { λ r. ⌜ r ≡ isSeparator separator b ⌝ }
 {
@@ -24,7 +24,10 @@ fn separates(separator: u8, b: u8) -> bool
     if b == b'\t' {
         return true;
     }
-    b == b'\r'
+    if b == b'\r' {
+        return true;
+    }
+    b == b','
 }
 
 fn belongs(separators: bool, separator: u8, b: u8) -> bool
@@ -106,14 +109,76 @@ pub fn after_words(s: &[u8], count: usize) -> &[u8]
     rest
 }
 
-// The place of a word among names with a space between them; of a word that is none of them, how many names there are.
+// Whether the byte behind this one is the last of a letter with a mark, but for ñ.
+fn behind_mark(before: u8) -> bool
+    ensures { λ r. ⌜ r ≡ behindMark before ⌝ }
+{
+    if before == 184 {
+        return true;
+    }
+    if before == 185 {
+        return true;
+    }
+    if before == 196 {
+        return true;
+    }
+    before == 197
+}
+
+// A byte in small letters, by the byte before it.
+fn small_byte(before: u8, b: u8) -> u8
+    ensures { λ r. ⌜ r ≡ smallByte before b ⌝ }
+{
+    if b < b'A' {
+        return b;
+    }
+    if b <= b'Z' {
+        return b + 32;
+    }
+    if b < 128 {
+        return b;
+    }
+    if before == 195 {
+        if b < 160 {
+            return b + 32;
+        }
+        return b;
+    }
+    if !behind_mark(before) {
+        return b;
+    }
+    if b % 2 == 0 { b + 1 } else { b }
+}
+
+// Whether a word is a name, which is in small letters, in any letter case.
+fn is_name(name: &[u8], word: &[u8]) -> bool
+    ensures { λ r. ⌜ r ≡ sameBytes (now (name .entry)) (small (now (word .entry))) ⌝ }
+{
+    if name.len() != word.len() {
+        return false;
+    }
+    let mut before: u8 = 0;
+    let mut i: usize = 0;
+    while i < name.len() {
+        let b = word[i];
+        if name[i] != small_byte(before, b) {
+            return false;
+        }
+        before = b;
+        i += 1;
+    }
+    true
+}
+
+// The place of a word among names with a space between them, in any letter case; of a word that is none of them, how
+// many names there are.
 pub fn place_in(names: &[u8], word: &[u8]) -> usize
     ensures { λ r. ⌜ r ≡ placeIn (pieces space (now (names .entry))) (now (word .entry)) ⌝ }
 {
     let mut place: usize = 0;
     let mut rest = names;
     loop {
-        if check::same(up_to(rest, b' '), word) {
+        if is_name(up_to(rest, b' '), word) {
             return place;
         }
         place += 1;

@@ -20,11 +20,11 @@ loop-holds c = placing-start _ _
 up-to-requires : tie.Need-up-to-requires Inv-loop μ-loop
 up-to-requires c κs = search needs
 
-same-requires : tie.Need-same-requires Inv-loop μ-loop
-same-requires c κs = search needs
+is-name-requires : tie.Need-is-name-requires Inv-loop μ-loop
+is-name-requires c κs = search needs
 
 returns : tie.Need-returns Inv-loop μ-loop
-returns c = placing-found _ _ _ _ (c .before .before .before .loop .inv) (sym (first-same _ _ _ _ (c .before .before .up-to .ensures) (c .before .same .ensures)) ∙ c .if1 .taken)
+returns c = placing-found _ _ _ _ (c .before .before .before .loop .inv) (sym (first-same _ _ _ _ (c .before .before .up-to .ensures) (c .before .is-name .ensures)) ∙ c .if1 .taken)
 
 add-place : tie.Need-add-place Inv-loop μ-loop
 add-place c = omega (arith, (c .before .before .before .loop .inv) .room)
@@ -33,7 +33,7 @@ run-length-requires : tie.Need-run-length-requires Inv-loop μ-loop
 run-length-requires c κs = search needs
 
 returns-2 : tie.Need-returns-2 Inv-loop μ-loop
-returns-2 c = placing-end _ _ _ _ (c .before .before .before .before .before .loop .inv) (sym (first-same _ _ _ _ (c .before .before .before .before .up-to .ensures) (c .before .before .before .same .ensures)) ∙ c .before .before .if1 .left) (sym (c .before .run-length .ensures) ∙ c .if2 .taken)
+returns-2 c = placing-end _ _ _ _ (c .before .before .before .before .before .loop .inv) (sym (first-same _ _ _ _ (c .before .before .before .before .up-to .ensures) (c .before .before .before .is-name .ensures)) ∙ c .before .before .if1 .left) (sym (c .before .run-length .ensures) ∙ c .if2 .taken)
 
 after-requires : tie.Need-after-requires Inv-loop μ-loop
 after-requires c κs = search needs
@@ -42,7 +42,7 @@ loop-less : tie.Need-loop-less Inv-loop μ-loop
 loop-less c = rw (c .after .ensures) (after-shorter _ _ (λ end. c .before .if2 .left (c .before .before .run-length .ensures ∙ end)))
 
 loop-again : tie.Need-loop-again Inv-loop μ-loop
-loop-again c = rw (c .after .ensures) (placing-next _ _ _ _ (c .before .before .before .before .before .before .loop .inv) (sym (first-same _ _ _ _ (c .before .before .before .before .before .up-to .ensures) (c .before .before .before .before .same .ensures)) ∙ c .before .before .before .if1 .left) (λ end. c .before .if2 .left (c .before .before .run-length .ensures ∙ end)))
+loop-again c = rw (c .after .ensures) (placing-next _ _ _ _ (c .before .before .before .before .before .before .loop .inv) (sym (first-same _ _ _ _ (c .before .before .before .before .before .up-to .ensures) (c .before .before .before .before .is-name .ensures)) ∙ c .before .before .before .if1 .left) (λ end. c .before .if2 .left (c .before .before .run-length .ensures ∙ end)))
 
 pub place-in-spec : {M : Type 1} → statement M
 place-in-spec =
@@ -52,7 +52,7 @@ place-in-spec =
     μ-loop
     loop-holds
     up-to-requires
-    same-requires
+    is-name-requires
     returns
     add-place
     run-length-requires

@@ -1,0 +1,4 @@
+pub mod Pieces
+pub mod Laws
+pub mod Spelling
+pub mod Worked
