@@ -3,6 +3,7 @@
 use catalogue::Piece;
 ghost use mathlib.Core.Path.{_≡_};
 ghost use lib.ListN.{length};
+ghost use Rattle.names.specs.declared.Print.the-variants.{Numbers};
 ghost use Rattle.catalogue.specs.Pieces.{linesPiece, linesAfter, headingPiece, headingAfter, ofEdition, leftInEdition};
 ghost use Rattle.bridge.specs.Pieces.{BridgeLines, BridgeHeading};
 
@@ -19,8 +20,8 @@ pub extern "C" fn bridge_lines_result(
     from: u32,
     buffer: &mut [u8],
 ) -> u32
-    ensures { λ r. ⌜ r ≡ ofEdition edition (linesPiece edition (now (list .entry)) from (length (now (buffer .entry)))) .refusal ⌝ }
-    ensures { λ _. ⌜ now (buffer .exit) ≡ leftInEdition edition (now (buffer .entry)) (linesAfter edition (now (list .entry)) from (now (buffer .entry))) ⌝ }
+    ensures { λ r. ⌜ r ≡ ofEdition edition (linesPiece Numbers edition (now (list .entry)) from (length (now (buffer .entry)))) .refusal ⌝ }
+    ensures { λ _. ⌜ now (buffer .exit) ≡ leftInEdition edition (now (buffer .entry)) (linesAfter Numbers edition (now (list .entry)) from (now (buffer .entry))) ⌝ }
 {
     put_lines(edition, list, from, buffer).refusal
 }
@@ -32,8 +33,8 @@ pub extern "C" fn bridge_lines_bytes(
     from: u32,
     buffer: &mut [u8],
 ) -> usize
-    ensures { λ r. ⌜ r ≡ ofEdition edition (linesPiece edition (now (list .entry)) from (length (now (buffer .entry)))) .bytes ⌝ }
-    ensures { λ _. ⌜ now (buffer .exit) ≡ leftInEdition edition (now (buffer .entry)) (linesAfter edition (now (list .entry)) from (now (buffer .entry))) ⌝ }
+    ensures { λ r. ⌜ r ≡ ofEdition edition (linesPiece Numbers edition (now (list .entry)) from (length (now (buffer .entry)))) .bytes ⌝ }
+    ensures { λ _. ⌜ now (buffer .exit) ≡ leftInEdition edition (now (buffer .entry)) (linesAfter Numbers edition (now (list .entry)) from (now (buffer .entry))) ⌝ }
 {
     put_lines(edition, list, from, buffer).bytes
 }
@@ -45,8 +46,8 @@ pub extern "C" fn bridge_lines_next(
     from: u32,
     buffer: &mut [u8],
 ) -> usize
-    ensures { λ r. ⌜ r ≡ ofEdition edition (linesPiece edition (now (list .entry)) from (length (now (buffer .entry)))) .next ⌝ }
-    ensures { λ _. ⌜ now (buffer .exit) ≡ leftInEdition edition (now (buffer .entry)) (linesAfter edition (now (list .entry)) from (now (buffer .entry))) ⌝ }
+    ensures { λ r. ⌜ r ≡ ofEdition edition (linesPiece Numbers edition (now (list .entry)) from (length (now (buffer .entry)))) .next ⌝ }
+    ensures { λ _. ⌜ now (buffer .exit) ≡ leftInEdition edition (now (buffer .entry)) (linesAfter Numbers edition (now (list .entry)) from (now (buffer .entry))) ⌝ }
 {
     put_lines(edition, list, from, buffer).next
 }
@@ -64,8 +65,8 @@ pub extern "C" fn bridge_heading_result(
     examined: u32,
     buffer: &mut [u8],
 ) -> u32
-    ensures { λ r. ⌜ r ≡ ofEdition edition (headingPiece edition length examined (lib.ListN.length (now (buffer .entry)))) .refusal ⌝ }
-    ensures { λ _. ⌜ now (buffer .exit) ≡ leftInEdition edition (now (buffer .entry)) (headingAfter edition length examined (now (buffer .entry))) ⌝ }
+    ensures { λ r. ⌜ r ≡ ofEdition edition (headingPiece Numbers edition length examined (lib.ListN.length (now (buffer .entry)))) .refusal ⌝ }
+    ensures { λ _. ⌜ now (buffer .exit) ≡ leftInEdition edition (now (buffer .entry)) (headingAfter Numbers edition length examined (now (buffer .entry))) ⌝ }
 {
     put_heading(edition, length, examined, buffer).refusal
 }
@@ -77,8 +78,8 @@ pub extern "C" fn bridge_heading_bytes(
     examined: u32,
     buffer: &mut [u8],
 ) -> usize
-    ensures { λ r. ⌜ r ≡ ofEdition edition (headingPiece edition length examined (lib.ListN.length (now (buffer .entry)))) .bytes ⌝ }
-    ensures { λ _. ⌜ now (buffer .exit) ≡ leftInEdition edition (now (buffer .entry)) (headingAfter edition length examined (now (buffer .entry))) ⌝ }
+    ensures { λ r. ⌜ r ≡ ofEdition edition (headingPiece Numbers edition length examined (lib.ListN.length (now (buffer .entry)))) .bytes ⌝ }
+    ensures { λ _. ⌜ now (buffer .exit) ≡ leftInEdition edition (now (buffer .entry)) (headingAfter Numbers edition length examined (now (buffer .entry))) ⌝ }
 {
     put_heading(edition, length, examined, buffer).bytes
 }

@@ -6,6 +6,7 @@ use native.Mathlib.Omega.{arith}
 use lib.ListN.{length, drop}
 use lib.Seq.{paste}
 use Rattle.days.specs.Refusals.{listTooShort}
+use Rattle.names.specs.declared.Print.{Print}
 use Rattle.text.specs.declared.Line.{Line}
 use Rattle.text.specs.Lines.{contents, Holds}
 use Rattle.catalogue.specs.Catalogue.{catalogueHeading}
@@ -13,22 +14,22 @@ use Rattle.catalogue.specs.Pieces.{thePiece, noPiece, headingPiece, head
 use Rattle.catalogue.proofs.Pieces.{heading-put, heading-refused}
 use Rattle.text.proofs.Holding.{holds-length}
 
-module _ (ed found examined : ℕ) (before : List ℕ) (line : Line) (holds : Holds line (catalogueHeading ed found examined)) where
+module _ (form : Print) (ed found examined : ℕ) (before : List ℕ) (line : Line) (holds : Holds line (catalogueHeading form ed found examined)) where
   pub line-refused :
       length before < line .len →
-      (noPiece listTooShort (line .len) ≡ headingPiece ed found examined (length before)) × (before ≡ headingAfter ed found examined before)
+      (noPiece listTooShort (line .len) ≡ headingPiece form ed found examined (length before)) × (before ≡ headingAfter form ed found examined before)
   line-refused h =
       let size = holds-length holds in
-      let headed = heading-refused ed found examined before (omega arith) in
+      let headed = heading-refused form ed found examined before (omega arith) in
       (ap (noPiece listTooShort) size ∙ sym (headed .answer), sym (headed .put))
 
   pub line-put :
       line .len ≤ length before →
-      (thePiece (line .len) 0 ≡ headingPiece ed found examined (length before))
-      × (paste before 0 (line .bytes) (line .len) ≡ headingAfter ed found examined before)
+      (thePiece (line .len) 0 ≡ headingPiece form ed found examined (length before))
+      × (paste before 0 (line .bytes) (line .len) ≡ headingAfter form ed found examined before)
   unfolding contents
   line-put h =
       let size = holds-length holds in
-      let end : 0 + line .len ≡ length (catalogueHeading ed found examined) = omega arith in
-      let headed = heading-put ed found examined before (omega arith) in
+      let end : 0 + line .len ≡ length (catalogueHeading form ed found examined) = omega arith in
+      let headed = heading-put form ed found examined before (omega arith) in
       (ap (λ (n : ℕ). thePiece n 0) size ∙ sym (headed .answer), ap₂ (λ (l : List ℕ) (n : ℕ). l ++ drop n before) (holds .whole) end ∙ sym (headed .put))

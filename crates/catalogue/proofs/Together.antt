@@ -12,6 +12,7 @@ use lib.Seq.{take-append-seam}
 use Rattle.entries.specs.Entries.{capacity, entryAt}
 use Rattle.entries.specs.Listed.{entryDays, listedFrom, EachDay}
 use Rattle.entries.proofs.Listed.{no-days, more-days, days-length}
+use Rattle.names.specs.declared.Print.{Print}
 use Rattle.panchanga.specs.TrueLongitudes.{isEdition}
 use Rattle.text.specs.Lines.{lineCapacity}
 use Rattle.catalogue.specs.declared.Piece.{Piece}
@@ -21,17 +22,17 @@ use Rattle.catalogue.specs.Each.{EachFits}
 use Rattle.catalogue.proofs.DayLines.{line-fits, line-some}
 use Rattle.catalogue.proofs.Pieces.{no-lines, fits, fitting, printed-none, printed-more, printed-end, piece-none, piece-some}
 
-module _ (ed : ℕ) where
-  pub lines-append : (xs ys : List ℕ) → dayLines ed (xs ++ ys) ≡ dayLines ed xs ++ dayLines ed ys
+module _ (form : Print) (ed : ℕ) where
+  pub lines-append : (xs ys : List ℕ) → dayLines form ed (xs ++ ys) ≡ dayLines form ed xs ++ dayLines form ed ys
   unfolding dayLines
   lines-append [] ys = refl
-  lines-append (x ∷ xs) ys = ap (λ (l : List ℕ). dayLine ed x ++ l) (lines-append xs ys) ∙ sym (append-assoc (dayLine ed x) (dayLines ed xs) (dayLines ed ys))
+  lines-append (x ∷ xs) ys = ap (λ (l : List ℕ). dayLine form ed x ++ l) (lines-append xs ys) ∙ sym (append-assoc (dayLine form ed x) (dayLines form ed xs) (dayLines form ed ys))
 
   -- a buffer as long as a line takes the line of any day
-  pub each-fits : isEdition ed ≡ true → (room : ℕ) (ds : List ℕ) → lineCapacity ≤ room → EachDay ds → EachFits ed room ds
+  pub each-fits : isEdition ed ≡ true → (room : ℕ) (ds : List ℕ) → lineCapacity ≤ room → EachDay ds → EachFits form ed room ds
   unfolding EachFits EachDay
   each-fits t room [] h all = tt
-  each-fits t room (d ∷ ds) h all = (fits ed room d (all .0) (omega (arith, line-fits ed d t (all .0))), each-fits t room ds h (all .1))
+  each-fits t room (d ∷ ds) h all = (fits form ed room d (all .0) (omega (arith, line-fits form ed d t (all .0))), each-fits t room ds h (all .1))
 
   -- of the n days from entry k on, the first are those of ds
   abbrev First : List ℕ → ℕ → ℕ → List ℕ → Type 0
@@ -48,88 +49,88 @@ module _ (ed : ℕ) where
       ap (λ (l : List ℕ). entryAt list k .number ∷ l) (h ∙ ap₂ (λ (i m : ℕ). ds ++ entryDays list i m) next left)
 
   -- the days printed are the first of those due
-  printed-first : (room : ℕ) (list : List ℕ) (k n : ℕ) → First list k n (printedDays ed room (entryDays list k n))
-  printed-first room list k zero = subst (First list k zero) (sym (ap (printedDays ed room) (no-days list k) ∙ printed-none ed room)) (first-none list k zero)
-  printed-first room list k (suc n) = go (lineFits ed room d) refl (printed-first (room - length (dayLine ed d)) list (suc k) n)
+  printed-first : (room : ℕ) (list : List ℕ) (k n : ℕ) → First list k n (printedDays form ed room (entryDays list k n))
+  printed-first room list k zero = subst (First list k zero) (sym (ap (printedDays form ed room) (no-days list k) ∙ printed-none form ed room)) (first-none list k zero)
+  printed-first room list k (suc n) = go (lineFits form ed room d) refl (printed-first (room - length (dayLine form ed d)) list (suc k) n)
     where
       d : ℕ
       d = entryAt list k .number
 
       go :
           (b : Bool) →
-          lineFits ed room d ≡ b →
-          First list (suc k) n (printedDays ed (room - length (dayLine ed d)) (entryDays list (suc k) n)) →
-          First list k (suc n) (printedDays ed room (entryDays list k (suc n)))
+          lineFits form ed room d ≡ b →
+          First list (suc k) n (printedDays form ed (room - length (dayLine form ed d)) (entryDays list (suc k) n)) →
+          First list k (suc n) (printedDays form ed room (entryDays list k (suc n)))
       go true e h =
-          subst (First list k (suc n)) (sym (ap (printedDays ed room) (more-days list k n) ∙ printed-more ed room d (entryDays list (suc k) n) e)) (first-more list k n (printedDays ed (room - length (dayLine ed d)) (entryDays list (suc k) n)) h)
+          subst (First list k (suc n)) (sym (ap (printedDays form ed room) (more-days list k n) ∙ printed-more form ed room d (entryDays list (suc k) n) e)) (first-more list k n (printedDays form ed (room - length (dayLine form ed d)) (entryDays list (suc k) n)) h)
       go false e h =
-          subst (First list k (suc n)) (sym (ap (printedDays ed room) (more-days list k n) ∙ printed-end ed room d (entryDays list (suc k) n) e)) (first-none list k (suc n))
+          subst (First list k (suc n)) (sym (ap (printedDays form ed room) (more-days list k n) ∙ printed-end form ed room d (entryDays list (suc k) n) e)) (first-none list k (suc n))
 
   -- their lines are within the room
-  printed-within : (room : ℕ) (ds : List ℕ) → length (dayLines ed (printedDays ed room ds)) ≤ room
-  printed-within room [] = rw (printed-none ed room) (unfold dayLines in omega arith)
-  printed-within room (d ∷ ds) = go (lineFits ed room d) refl (printed-within (room - length (dayLine ed d)) ds)
+  printed-within : (room : ℕ) (ds : List ℕ) → length (dayLines form ed (printedDays form ed room ds)) ≤ room
+  printed-within room [] = rw (printed-none form ed room) (unfold dayLines in omega arith)
+  printed-within room (d ∷ ds) = go (lineFits form ed room d) refl (printed-within (room - length (dayLine form ed d)) ds)
     where
       go :
           (b : Bool) →
-          lineFits ed room d ≡ b →
-          length (dayLines ed (printedDays ed (room - length (dayLine ed d)) ds)) ≤ room - length (dayLine ed d) →
-          length (dayLines ed (printedDays ed room (d ∷ ds))) ≤ room
-      go true e h = rw (printed-more ed room d ds e) (unfold dayLines in simp length-append (omega (arith, fitting ed room d e)))
-      go false e h = rw (printed-end ed room d ds e) (unfold dayLines in omega arith)
+          lineFits form ed room d ≡ b →
+          length (dayLines form ed (printedDays form ed (room - length (dayLine form ed d)) ds)) ≤ room - length (dayLine form ed d) →
+          length (dayLines form ed (printedDays form ed room (d ∷ ds))) ≤ room
+      go true e h = rw (printed-more form ed room d ds e) (unfold dayLines in simp length-append (omega (arith, fitting form ed room d e)))
+      go false e h = rw (printed-end form ed room d ds e) (unfold dayLines in omega arith)
 
   -- where each line fits there is no refusal
-  piece-each : (room k : ℕ) (ds : List ℕ) → EachFits ed room ds → pieceOf ed room k ds ≡ putPiece ed k (printedDays ed room ds)
+  piece-each : (room k : ℕ) (ds : List ℕ) → EachFits form ed room ds → pieceOf form ed room k ds ≡ putPiece form ed k (printedDays form ed room ds)
   unfolding EachFits
-  piece-each room k [] each = piece-none ed room k ∙ ap₂ thePiece (unfold dayLines printedDays in refl) (unfold printedDays in omega arith)
-  piece-each room k (d ∷ ds) each = piece-some ed room k d ds (each .0)
+  piece-each room k [] each = piece-none form ed room k ∙ ap₂ thePiece (unfold dayLines printedDays in refl) (unfold printedDays in omega arith)
+  piece-each room k (d ∷ ds) each = piece-some form ed room k d ds (each .0)
 
-  rest-fits : (room : ℕ) (xs ys : List ℕ) → EachFits ed room (xs ++ ys) → EachFits ed room ys
+  rest-fits : (room : ℕ) (xs ys : List ℕ) → EachFits form ed room (xs ++ ys) → EachFits form ed room ys
   unfolding EachFits
   rest-fits room [] ys each = each
   rest-fits room (x ∷ xs) ys each = rest-fits room xs ys (each .1)
 
-  no-bytes : (ds : List ℕ) → length (dayLines ed ds) ≡ 0 → ds ≡ []
+  no-bytes : (ds : List ℕ) → length (dayLines form ed ds) ≡ 0 → ds ≡ []
   unfolding dayLines
   no-bytes [] h = refl
-  no-bytes (d ∷ ds) h = absurd (omega (arith, line-some ed d, simp length-append at h))
+  no-bytes (d ∷ ds) h = absurd (omega (arith, line-some form ed d, simp length-append at h))
 
-  all-printed : (room : ℕ) (ds : List ℕ) → EachFits ed room ds → printedDays ed room ds ≡ [] → ds ≡ []
+  all-printed : (room : ℕ) (ds : List ℕ) → EachFits form ed room ds → printedDays form ed room ds ≡ [] → ds ≡ []
   unfolding EachFits
   all-printed room [] each none = refl
-  all-printed room (d ∷ ds) each none = absurd (omega (arith, ap length (sym (printed-more ed room d ds (each .0)) ∙ none)))
+  all-printed room (d ∷ ds) each none = absurd (omega (arith, ap length (sym (printed-more form ed room d ds (each .0)) ∙ none)))
 
   -- what a call tells and leaves behind, where each line due fits the buffer
   pub record Going (list : List ℕ) (k : ℕ) (before : List ℕ) (piece : Piece) (after : List ℕ) : Type 0 where
     pub good : piece .refusal ≡ 0
     pub within : piece .bytes ≤ length before
     -- the bytes put are the front of the lines due, and those from the entry handed back on are the rest
-    pub lines : dayLines ed (listedFrom list k) ≡ take (piece .bytes) after ++ dayLines ed (listedFrom list (piece .next))
+    pub lines : dayLines form ed (listedFrom list k) ≡ take (piece .bytes) after ++ dayLines form ed (listedFrom list (piece .next))
     pub front : length (take (piece .bytes) after) ≡ piece .bytes
-    pub fits-on : (room : ℕ) → EachFits ed room (listedFrom list k) → EachFits ed room (listedFrom list (piece .next))
+    pub fits-on : (room : ℕ) → EachFits form ed room (listedFrom list k) → EachFits form ed room (listedFrom list (piece .next))
     -- nothing is put only where nothing is due, and else the next entry is a later one
     pub done : piece .bytes ≡ 0 → listedFrom list k ≡ []
     pub on : (piece .bytes ≡ 0 → ⊥) → k < piece .next
     pub forward : k ≤ piece .next
 
-  pub going : (list : List ℕ) (k : ℕ) (before : List ℕ) → EachFits ed (length before) (listedFrom list k) → Going list k before (linesPiece ed list k (length before)) (linesAfter ed list k before)
+  pub going : (list : List ℕ) (k : ℕ) (before : List ℕ) → EachFits form ed (length before) (listedFrom list k) → Going list k before (linesPiece form ed list k (length before)) (linesAfter form ed list k before)
   going list k before each =
       rw answered
       (record {
         good = refl;
         within = printed-within (length before) (listedFrom list k);
-        lines = ap (dayLines ed) first ∙ lines-append printed (listedFrom list (k + length printed)) ∙ ap (λ (l : List ℕ). l ++ dayLines ed (listedFrom list (k + length printed))) (sym taken);
+        lines = ap (dayLines form ed) first ∙ lines-append printed (listedFrom list (k + length printed)) ∙ ap (λ (l : List ℕ). l ++ dayLines form ed (listedFrom list (k + length printed))) (sym taken);
         front = ap length taken;
-        fits-on = λ room each. rest-fits room printed (listedFrom list (k + length printed)) (subst (EachFits ed room) first each);
+        fits-on = λ room each. rest-fits room printed (listedFrom list (k + length printed)) (subst (EachFits form ed room) first each);
         done = λ none. all-printed (length before) (listedFrom list k) each (no-bytes printed none);
         on = λ some. later (decLe 1 (length printed)) some;
         forward = omega arith;
       })
     where
       printed : List ℕ
-      printed = printedDays ed (length before) (listedFrom list k)
+      printed = printedDays form ed (length before) (listedFrom list k)
 
-      answered : linesPiece ed list k (length before) ≡ putPiece ed k printed
+      answered : linesPiece form ed list k (length before) ≡ putPiece form ed k printed
       answered = piece-each (length before) k (listedFrom list k) each
 
       first : listedFrom list k ≡ printed ++ listedFrom list (k + length printed)
@@ -137,39 +138,39 @@ module _ (ed : ℕ) where
           printed-first (length before) list k (capacity list - k)
           ∙ ap (λ (n : ℕ). printed ++ entryDays list (k + length printed) n) (omega arith)
 
-      taken : take (length (dayLines ed printed)) (linesAfter ed list k before) ≡ dayLines ed printed
-      taken = take-append-seam (dayLines ed printed) (drop (length (dayLines ed printed)) before)
+      taken : take (length (dayLines form ed printed)) (linesAfter form ed list k before) ≡ dayLines form ed printed
+      taken = take-append-seam (dayLines form ed printed) (drop (length (dayLines form ed printed)) before)
 
-      later : Dec (1 ≤ length printed) → (length (dayLines ed printed) ≡ 0 → ⊥) → k < k + length printed
+      later : Dec (1 ≤ length printed) → (length (dayLines form ed printed) ≡ 0 → ⊥) → k < k + length printed
       later (yes h) some = omega arith
-      later (no h) some = absurd (some (no-lines ed printed (omega arith)))
+      later (no h) some = absurd (some (no-lines form ed printed (omega arith)))
 
   -- the bytes that n calls put one after another, the first from entry k on and each other from the entry that the one
   -- before it handed back; `buffers i` is the buffer of the call behind which i are left
   pub piecesFrom : List ℕ → (ℕ → List ℕ) → ℕ → ℕ → List ℕ
   piecesFrom list buffers zero k = []
   piecesFrom list buffers (suc n) k =
-      take (linesPiece ed list k (length (buffers n)) .bytes) (linesAfter ed list k (buffers n))
-      ++ piecesFrom list buffers n (linesPiece ed list k (length (buffers n)) .next)
+      take (linesPiece form ed list k (length (buffers n)) .bytes) (linesAfter form ed list k (buffers n))
+      ++ piecesFrom list buffers n (linesPiece form ed list k (length (buffers n)) .next)
 
   pub pieces-together :
       (list : List ℕ) (buffers : ℕ → List ℕ) (n k : ℕ) →
-      ((i : ℕ) → EachFits ed (length (buffers i)) (listedFrom list k)) →
+      ((i : ℕ) → EachFits form ed (length (buffers i)) (listedFrom list k)) →
       capacity list - k ≤ n →
-      piecesFrom list buffers n k ≡ dayLines ed (listedFrom list k)
+      piecesFrom list buffers n k ≡ dayLines form ed (listedFrom list k)
   unfolding piecesFrom dayLines
   pieces-together list buffers zero k each enough =
       let none : capacity list - k ≡ 0 = omega arith in
-      sym (ap (λ (m : ℕ). dayLines ed (entryDays list k m)) none ∙ ap (dayLines ed) (no-days list k))
+      sym (ap (λ (m : ℕ). dayLines form ed (entryDays list k m)) none ∙ ap (dayLines form ed) (no-days list k))
   pieces-together list buffers (suc n) k each enough =
-      ap (λ (l : List ℕ). take (piece .bytes) (linesAfter ed list k (buffers n)) ++ l)
+      ap (λ (l : List ℕ). take (piece .bytes) (linesAfter form ed list k (buffers n)) ++ l)
       (pieces-together list buffers n (piece .next) (λ i. g .fits-on (length (buffers i)) (each i)) (fewer (decLe 1 (piece .bytes))))
       ∙ sym (g .lines)
     where
       piece : Piece
-      piece = linesPiece ed list k (length (buffers n))
+      piece = linesPiece form ed list k (length (buffers n))
 
-      g : Going list k (buffers n) piece (linesAfter ed list k (buffers n))
+      g : Going list k (buffers n) piece (linesAfter form ed list k (buffers n))
       g = going list k (buffers n) (each n)
 
       fewer : Dec (1 ≤ piece .bytes) → capacity list - piece .next ≤ n

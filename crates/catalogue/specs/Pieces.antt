@@ -9,23 +9,24 @@ use lib.ListN.{length, drop}
 use Rattle.days.specs.Days.{lastDay}
 use Rattle.days.specs.Refusals.{accepted, outOfRange, listTooShort, badEdition}
 use Rattle.entries.specs.Listed.{listedFrom}
+use Rattle.names.specs.declared.Print.{Print}
 use Rattle.panchanga.specs.TrueLongitudes.{isEdition}
 use Rattle.catalogue.specs.declared.Piece.{Piece}
 use Rattle.catalogue.specs.Catalogue.{catalogueHeading, dayLine}
 
--- the lines of days in an edition, one after another
-unfoldable pub dayLines : ℕ → List ℕ → List ℕ
-dayLines ed [] = []
-dayLines ed (d ∷ ds) = dayLine ed d ++ dayLines ed ds
+-- the lines of days in a form and an edition, one after another
+unfoldable pub dayLines : Print → ℕ → List ℕ → List ℕ
+dayLines form ed [] = []
+dayLines form ed (d ∷ ds) = dayLine form ed d ++ dayLines form ed ds
 
 -- whether a number is a day whose line fits whole into so many bytes
-unfoldable pub lineFits : ℕ → ℕ → ℕ → Bool
-lineFits ed room d = leb d lastDay && leb (length (dayLine ed d)) room
+unfoldable pub lineFits : Print → ℕ → ℕ → ℕ → Bool
+lineFits form ed room d = leb d lastDay && leb (length (dayLine form ed d)) room
 
 -- the days in front whose lines, one after another, fit whole into so many bytes; a number that is no day ends them
-unfoldable pub printedDays : ℕ → ℕ → List ℕ → List ℕ
-printedDays ed room [] = []
-printedDays ed room (d ∷ ds) = elim (lineFits ed room d) [ true ↦ d ∷ printedDays ed (room - length (dayLine ed d)) ds | false ↦ [] ]
+unfoldable pub printedDays : Print → ℕ → ℕ → List ℕ → List ℕ
+printedDays form ed room [] = []
+printedDays form ed room (d ∷ ds) = elim (lineFits form ed room d) [ true ↦ d ∷ printedDays form ed (room - length (dayLine form ed d)) ds | false ↦ [] ]
 
 -- bytes put at a buffer's front, and behind them what was there
 abbrev pub withFront : List ℕ → List ℕ → List ℕ
@@ -40,34 +41,34 @@ abbrev pub noPiece : ℕ → ℕ → Piece
 noPiece refusal bytes = record { refusal = refusal; bytes = bytes; next = 0 }
 
 -- accepted, with the lines of these days put, the first of which is entry k's
-abbrev pub putPiece : ℕ → ℕ → List ℕ → Piece
-putPiece ed k days = thePiece (length (dayLines ed days)) (k + length days)
+abbrev pub putPiece : Print → ℕ → ℕ → List ℕ → Piece
+putPiece form ed k days = thePiece (length (dayLines form ed days)) (k + length days)
 
 -- the answer where the lines of these days, the first of which is entry k's, are due for a buffer of so many bytes
-unfoldable pub pieceOf : ℕ → ℕ → ℕ → List ℕ → Piece
-pieceOf ed room k [] = thePiece 0 k
-pieceOf ed room k (d ∷ ds) =
+unfoldable pub pieceOf : Print → ℕ → ℕ → ℕ → List ℕ → Piece
+pieceOf form ed room k [] = thePiece 0 k
+pieceOf form ed room k (d ∷ ds) =
     cond (leb d lastDay)
-    (cond (leb (length (dayLine ed d)) room) (putPiece ed k (printedDays ed room (d ∷ ds))) (noPiece listTooShort (length (dayLine ed d))))
+    (cond (leb (length (dayLine form ed d)) room) (putPiece form ed k (printedDays form ed room (d ∷ ds))) (noPiece listTooShort (length (dayLine form ed d))))
     (noPiece outOfRange 0)
 
--- the answer for a list's lines from entry k on, in an edition
-abbrev pub linesPiece : ℕ → List ℕ → ℕ → ℕ → Piece
-linesPiece ed list k room = pieceOf ed room k (listedFrom list k)
+-- the answer for a list's lines from entry k on
+abbrev pub linesPiece : Print → ℕ → List ℕ → ℕ → ℕ → Piece
+linesPiece form ed list k room = pieceOf form ed room k (listedFrom list k)
 
 -- the buffer after; by a refusal no day is printed, and it is as it was
-abbrev pub linesAfter : ℕ → List ℕ → ℕ → List ℕ → List ℕ
-linesAfter ed list k before = withFront (dayLines ed (printedDays ed (length before) (listedFrom list k))) before
+abbrev pub linesAfter : Print → ℕ → List ℕ → ℕ → List ℕ → List ℕ
+linesAfter form ed list k before = withFront (dayLines form ed (printedDays form ed (length before) (listedFrom list k))) before
 
 -- the answer for the heading, behind which entry 0 comes
-unfoldable pub headingPiece : ℕ → ℕ → ℕ → ℕ → Piece
-headingPiece ed found examined room =
-    let size : ℕ = length (catalogueHeading ed found examined) in
+unfoldable pub headingPiece : Print → ℕ → ℕ → ℕ → ℕ → Piece
+headingPiece form ed found examined room =
+    let size : ℕ = length (catalogueHeading form ed found examined) in
     cond (leb size room) (thePiece size 0) (noPiece listTooShort size)
 
-unfoldable pub headingAfter : ℕ → ℕ → ℕ → List ℕ → List ℕ
-headingAfter ed found examined before =
-    let heading : List ℕ = catalogueHeading ed found examined in
+unfoldable pub headingAfter : Print → ℕ → ℕ → ℕ → List ℕ → List ℕ
+headingAfter form ed found examined before =
+    let heading : List ℕ = catalogueHeading form ed found examined in
     cond (leb (length heading) (length before)) (withFront heading before) before
 
 -- what a call hands back and leaves for any number: 14 first where it is no edition, and the buffer as it was

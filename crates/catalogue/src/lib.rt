@@ -1,6 +1,13 @@
-// A catalogue of days: its heading and its lines, put piece by piece into a lent buffer.
+// A catalogue of days, in one of three forms: its heading and its lines, put piece by piece into a lent buffer.
+use dated::put_aligned;
+use dated::put_full_date;
 use days::Day;
 use days::refusal;
+use names::Kind;
+use names::Print;
+use names::put_name;
+use names::put_padded;
+use names::put_quoted;
 use panchanga::Panchanga;
 use panchanga::SECOND_EDITION;
 use text::Line;
@@ -12,21 +19,32 @@ ghost use lib.ListN.{length};
 ghost use lib.Seq.{paste};
 ghost use Rattle.days.specs.Days.{lastDay};
 ghost use Rattle.panchanga.specs.TrueLongitudes.{isEdition};
-ghost use Rattle.text.specs.Lines.{lineCapacity, withBytes, Holds};
-ghost use Rattle.catalogue.specs.Catalogue.{editionText, catalogueHeading, elementBytes, dayLine};
+ghost use Rattle.text.specs.Lines.{lineCapacity, emptyLine, withBytes, Holds};
+ghost use Rattle.catalogue.specs.Catalogue.{editionText, countsLine, elementBytes, namedElements, columnLine, csvFields, csvElements, csvLine, catalogueHeading, dayLine, countsSaid};
 ghost use Rattle.catalogue.specs.Pieces.{thePiece, noPiece, linesPiece, linesAfter, headingPiece, headingAfter, ofEdition, leftInEdition};
 
-// How many days were found and how many looked at, and the heading.
-fn heading_line(edition: u32, length: u32, examined: u32) -> Line
-    ensures { λ r. ⌜ Holds r (catalogueHeading edition length examined) ⌝ }
+const NUMBERS_HEADING: [u8; 45] = *b"day date weekday tithi nakshatra yoga karana\n";
+
+const NAMES_HEADING: [u8; 90] =
+    *b"   day  date        weekday    tithi                nakshatra          yoga        karana\n";
+
+const CSV_HEADING: [u8; 121] =
+    *b"day,date,iso,weekday_number,weekday,tithi_number,tithi,nakshatra_number,nakshatra,\
+    yoga_number,yoga,karana_number,karana\r\n";
+
+// A day's number has at most six digits.
+const DAY_COLUMN: usize = 6;
+
+// How many days were found and how many looked at.
+fn counts_line(edition: u32, length: u32, examined: u32) -> Line
+    ensures { λ r. ⌜ r ≡ withBytes emptyLine (countsLine edition length examined) ⌝ }
 {
     let counts = Line::empty()
         .text(b"found ")
         .number(length)
         .text(b" looked ")
         .number(examined);
-    let named = with_edition(counts, edition);
-    named.text(b"\nday date weekday tithi nakshatra yoga karana\n")
+    with_edition(counts, edition).byte(b'\n')
 }
 
 // The second edition is named behind a line.
@@ -37,6 +55,27 @@ pub fn with_edition(line: Line, edition: u32) -> Line
         line.text(b" edition 2")
     } else {
         line.text(b"")
+    }
+}
+
+fn heading_line(print: Print, edition: u32, length: u32, examined: u32) -> Line
+    ensures { λ r. ⌜ Holds r (catalogueHeading print edition length examined) ⌝ }
+{
+    match print {
+        Print::Numbers => counts_line(edition, length, examined).text(&NUMBERS_HEADING),
+        Print::Names => counts_line(edition, length, examined).text(&NAMES_HEADING),
+        Print::Csv => Line::empty().text(&CSV_HEADING),
+    }
+}
+
+// What is said of the days found where the catalogue itself does not say it.
+pub fn said(print: Print, edition: u32, length: u32, examined: u32) -> Line
+    ensures { λ r. ⌜ Holds r (countsSaid print edition length examined) ⌝ }
+{
+    match print {
+        Print::Numbers => Line::empty(),
+        Print::Names => Line::empty(),
+        Print::Csv => counts_line(edition, length, examined),
     }
 }
 
@@ -53,14 +92,72 @@ fn put_elements(line: Line, elements: Panchanga) -> Line
         .number(elements.karana)
 }
 
-fn day_line(edition: u32, day: u32) -> Line
+fn put_named_elements(line: Line, elements: Panchanga) -> Line
+    ensures { λ r. ⌜ r ≡ withBytes line (namedElements elements) ⌝ }
+{
+    let tithi = put_padded(line.text(b"  "), Kind::Tithi, elements.tithi);
+    let nakshatra = put_padded(tithi.text(b"  "), Kind::Nakshatra, elements.nakshatra);
+    let yoga = put_padded(nakshatra.text(b"  "), Kind::Yoga, elements.yoga);
+    put_name(yoga.text(b"  "), Kind::Karana, elements.karana)
+}
+
+fn column_line(day: u32, weekday: u32, elements: Panchanga) -> Line
+    ensures { λ r. ⌜ r ≡ withBytes emptyLine (columnLine day weekday elements) ⌝ }
+{
+    let found = civil::date_of(day);
+    let numbered = put_aligned(Line::empty(), day, DAY_COLUMN).text(b"  ");
+    let dated = put_full_date(numbered, found.date).text(b"  ");
+    let named = put_padded(dated, Kind::Weekday, weekday);
+    put_named_elements(named, elements).byte(b'\n')
+}
+
+fn put_csv_fields(line: Line, kind: Kind, number: u32) -> Line
+    ensures { λ r. ⌜ r ≡ withBytes line (csvFields kind number) ⌝ }
+{
+    let numbered = line.byte(b',').number(number);
+    put_quoted(numbered.byte(b','), kind, number)
+}
+
+fn put_csv_elements(line: Line, elements: Panchanga) -> Line
+    ensures { λ r. ⌜ r ≡ withBytes line (csvElements elements) ⌝ }
+{
+    let tithi = put_csv_fields(line, Kind::Tithi, elements.tithi);
+    let nakshatra = put_csv_fields(tithi, Kind::Nakshatra, elements.nakshatra);
+    let yoga = put_csv_fields(nakshatra, Kind::Yoga, elements.yoga);
+    put_csv_fields(yoga, Kind::Karana, elements.karana)
+}
+
+fn csv_line(day: u32, weekday: u32, elements: Panchanga) -> Line
+    ensures { λ r. ⌜ r ≡ withBytes emptyLine (csvLine day weekday elements) ⌝ }
+{
+    let civil = civil::date_of(day);
+    let iso = iso::date_of(day);
+    let numbered = Line::empty().number(day).byte(b',');
+    let dated = put_full_date(numbered, civil.date).byte(b',');
+    let named = put_csv_fields(put_full_date(dated, iso.date), Kind::Weekday, weekday);
+    put_csv_elements(named, elements).text(b"\r\n")
+}
+
+fn day_line(print: Print, edition: u32, day: u32) -> Line
     requires { ⌜ (day ≤ lastDay) × (isEdition edition ≡ true) ⌝ }
-    ensures { λ r. ⌜ Holds r (dayLine edition day) ⌝ }
+    ensures { λ r. ⌜ Holds r (dayLine print edition day) ⌝ }
 {
     let answer = Day::from_number(day);
     let elements = panchanga::of_day(edition, answer.day);
-    let named = dated::put_named_day(Line::empty(), day);
-    put_elements(named, elements).byte(b'\n')
+    match print {
+        Print::Numbers => {
+            let named = dated::put_named_day(Line::empty(), day);
+            put_elements(named, elements).byte(b'\n')
+        }
+        Print::Names => {
+            let weekday = answer.day.weekday();
+            column_line(day, weekday.number, elements)
+        }
+        Print::Csv => {
+            let weekday = answer.day.weekday();
+            csv_line(day, weekday.number, elements)
+        }
+    }
 }
 
 // What was put at the front of a buffer: how many bytes, and which entry comes next.
@@ -106,20 +203,34 @@ fn put(buffer: &mut [u8], at: usize, line: Line)
 
 // The heading of an edition's catalogue, or nothing where it does not fit.
 pub fn heading(edition: u32, length: u32, examined: u32, buffer: &mut [u8]) -> Piece
-    ensures { λ r. ⌜ r ≡ ofEdition edition (headingPiece edition length examined (lib.ListN.length (now (buffer .entry)))) ⌝ }
-    ensures { λ _. ⌜ now (buffer .exit) ≡ leftInEdition edition (now (buffer .entry)) (headingAfter edition length examined (now (buffer .entry))) ⌝ }
+    ensures { λ r. ⌜ r ≡ ofEdition edition (headingPiece Print.Numbers edition length examined (lib.ListN.length (now (buffer .entry)))) ⌝ }
+    ensures { λ _. ⌜ now (buffer .exit) ≡ leftInEdition edition (now (buffer .entry)) (headingAfter Print.Numbers edition length examined (now (buffer .entry))) ⌝ }
+{
+    heading_in(Print::Numbers, edition, length, examined, buffer)
+}
+
+// The heading in a form.
+pub fn heading_in(
+    print: Print,
+    edition: u32,
+    length: u32,
+    examined: u32,
+    buffer: &mut [u8],
+) -> Piece
+    ensures { λ r. ⌜ r ≡ ofEdition edition (headingPiece print edition length examined (lib.ListN.length (now (buffer .entry)))) ⌝ }
+    ensures { λ _. ⌜ now (buffer .exit) ≡ leftInEdition edition (now (buffer .entry)) (headingAfter print edition length examined (now (buffer .entry))) ⌝ }
 {
     if !panchanga::is_edition(edition) {
         return refused(refusal::BAD_EDITION, 0);
     }
-    put_heading(edition, length, examined, buffer)
+    put_heading(print, edition, length, examined, buffer)
 }
 
-fn put_heading(edition: u32, length: u32, examined: u32, buffer: &mut [u8]) -> Piece
-    ensures { λ r. ⌜ r ≡ headingPiece edition length examined (lib.ListN.length (now (buffer .entry))) ⌝ }
-    ensures { λ _. ⌜ now (buffer .exit) ≡ headingAfter edition length examined (now (buffer .entry)) ⌝ }
+fn put_heading(print: Print, edition: u32, length: u32, examined: u32, buffer: &mut [u8]) -> Piece
+    ensures { λ r. ⌜ r ≡ headingPiece print edition length examined (lib.ListN.length (now (buffer .entry))) ⌝ }
+    ensures { λ _. ⌜ now (buffer .exit) ≡ headingAfter print edition length examined (now (buffer .entry)) ⌝ }
 {
-    let line = heading_line(edition, length, examined);
+    let line = heading_line(print, edition, length, examined);
     let len = line.len;
     if buffer.len() < len {
         return refused(refusal::LIST_TOO_SHORT, len);
@@ -138,19 +249,27 @@ fn unless_empty(piece: Piece, from: usize, refused: Piece) -> Piece
 // The lines of a list's days from an entry on, with an edition's elements, as many as fit whole, at the front of the
 // buffer.
 pub fn lines(edition: u32, list: &[u8], from: usize, buffer: &mut [u8]) -> Piece
-    ensures { λ r. ⌜ r ≡ ofEdition edition (linesPiece edition (now (list .entry)) from (length (now (buffer .entry)))) ⌝ }
-    ensures { λ _. ⌜ now (buffer .exit) ≡ leftInEdition edition (now (buffer .entry)) (linesAfter edition (now (list .entry)) from (now (buffer .entry))) ⌝ }
+    ensures { λ r. ⌜ r ≡ ofEdition edition (linesPiece Print.Numbers edition (now (list .entry)) from (length (now (buffer .entry)))) ⌝ }
+    ensures { λ _. ⌜ now (buffer .exit) ≡ leftInEdition edition (now (buffer .entry)) (linesAfter Print.Numbers edition (now (list .entry)) from (now (buffer .entry))) ⌝ }
+{
+    lines_in(Print::Numbers, edition, list, from, buffer)
+}
+
+// The lines in a form.
+pub fn lines_in(print: Print, edition: u32, list: &[u8], from: usize, buffer: &mut [u8]) -> Piece
+    ensures { λ r. ⌜ r ≡ ofEdition edition (linesPiece print edition (now (list .entry)) from (length (now (buffer .entry)))) ⌝ }
+    ensures { λ _. ⌜ now (buffer .exit) ≡ leftInEdition edition (now (buffer .entry)) (linesAfter print edition (now (list .entry)) from (now (buffer .entry))) ⌝ }
 {
     if !panchanga::is_edition(edition) {
         return refused(refusal::BAD_EDITION, 0);
     }
-    put_lines(edition, list, from, buffer)
+    put_lines(print, edition, list, from, buffer)
 }
 
-fn put_lines(edition: u32, list: &[u8], from: usize, buffer: &mut [u8]) -> Piece
+fn put_lines(print: Print, edition: u32, list: &[u8], from: usize, buffer: &mut [u8]) -> Piece
     requires { ⌜ isEdition edition ≡ true ⌝ }
-    ensures { λ r. ⌜ r ≡ linesPiece edition (now (list .entry)) from (length (now (buffer .entry))) ⌝ }
-    ensures { λ _. ⌜ now (buffer .exit) ≡ linesAfter edition (now (list .entry)) from (now (buffer .entry)) ⌝ }
+    ensures { λ r. ⌜ r ≡ linesPiece print edition (now (list .entry)) from (length (now (buffer .entry))) ⌝ }
+    ensures { λ _. ⌜ now (buffer .exit) ≡ linesAfter print edition (now (list .entry)) from (now (buffer .entry)) ⌝ }
 {
     let mut piece = accepted(0, from);
     loop {
@@ -161,7 +280,7 @@ fn put_lines(edition: u32, list: &[u8], from: usize, buffer: &mut [u8]) -> Piece
         if Day::LAST < due.number {
             return unless_empty(piece, from, refused(refusal::OUT_OF_RANGE, 0));
         }
-        let line = day_line(edition, due.number);
+        let line = day_line(print, edition, due.number);
         let len = line.len;
         if buffer.len() - piece.bytes < len {
             return unless_empty(piece, from, refused(refusal::LIST_TOO_SHORT, len));

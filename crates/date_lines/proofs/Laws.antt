@@ -26,11 +26,12 @@ use Rattle.words.specs.Words.{dash, inFront}
 use Rattle.civil.specs.declared.Date.{Date}
 use Rattle.civil.specs.declared.DateAnswer.{DateAnswer}
 use Rattle.civil.specs.Answers.{theDate, noDate}
+use Rattle.dated.specs.Dated.{twoDigits, fourDigits, fullDateBytes}
 use Rattle.iso.specs.Calendar.{isoOn, isoDayOf, isoDateOf}
 use Rattle.iso.proofs.Laws.{iso-day-of-date, iso-date-of-day, iso-small, iso-low}
 use Rattle.date_lines.specs.declared.Kind.{Kind}
 use Rattle.date_lines.specs.declared.Kind.the-variants.{Dates, Days}
-use Rattle.date_lines.specs.Lines.{dateDigits, isDateLine, dateIn, dateRead, numberLineRead, fourDigits, twoDigits, dateLine, lineRead, lineOf}
+use Rattle.date_lines.specs.Lines.{dateDigits, isDateLine, dateIn, dateRead, numberLineRead, dateLine, lineRead, lineOf}
 use Rattle.date_lines.specs.Texts.{linesOf, firstRefusal, daysOf, converted, linesRead, limitedRead, allDays, textOf, daysAnswer}
 
 -- the digits of small numbers are digits, and make the numbers again
@@ -53,12 +54,12 @@ with-digit v d = omega arith
 
 module _ (x : Date) (y : x .year < 10000) (m : x .month < 100) (d : x .day < 100) where
   line-digits : allDigits (dateDigits (dateLine x)) ≡ true
-  unfolding dateLine allDigits
+  unfolding dateLine fullDateBytes allDigits
   line-digits =
       rw (last-digit (x .year / 1000), last-digit (x .year / 100), last-digit (x .year / 10), last-digit (x .year), last-digit (x .month / 10), last-digit (x .month), last-digit (x .day / 10), last-digit (x .day))
 
   line-value : valueOf (dateDigits (dateLine x)) ≡ 10000 * x .year + 100 * x .month + x .day
-  unfolding dateLine valueOf
+  unfolding dateLine fullDateBytes valueOf
   line-value = simp with-digit (omega (arith, four-value (x .year) y, two-value (x .month) m, two-value (x .day) d))
 
   line-date : dateIn (valueOf (dateDigits (dateLine x))) ≡ x
@@ -79,7 +80,7 @@ module _ (x : Date) (y : x .year < 10000) (m : x .month < 100) (d : x .day < 100
       form = unfold isDateLine in go line-digits
         where
           go : allDigits (dateDigits (dateLine x)) ≡ true → (eqb (length (dateLine x)) 11 && eqb (getD (dateLine x) 4 0) dash && eqb (getD (dateLine x) 7 0) dash && eqb (getD (dateLine x) 10 0) newline && allDigits (dateDigits (dateLine x))) ≡ true
-          go e = rw e (unfold dateLine in refl)
+          go e = rw e (unfold dateLine fullDateBytes in refl)
 
 number-back : (d : ℕ) → d ≤ lastDay → numberLineRead (digitsOf d ++ (newline ∷ [])) ≡ theNumber d
 unfolding numberLineRead dayInput inputRead isLine
@@ -143,7 +144,7 @@ digits-kept :
     (a b c d e f g h : ℕ) →
     allDigits (a ∷ b ∷ c ∷ d ∷ e ∷ f ∷ g ∷ h ∷ []) ≡ true →
     dateLine (dateIn (valueOf (a ∷ b ∷ c ∷ d ∷ e ∷ f ∷ g ∷ h ∷ []))) ≡ a ∷ b ∷ c ∷ d ∷ dash ∷ e ∷ f ∷ dash ∷ g ∷ h ∷ newline ∷ []
-unfolding dateLine valueOf withDigit
+unfolding dateLine fullDateBytes valueOf withDigit
 digits-kept a b c d e f g h all =
     let p = a-digit a (b ∷ c ∷ d ∷ e ∷ f ∷ g ∷ h ∷ []) all in
     let q = a-digit b (c ∷ d ∷ e ∷ f ∷ g ∷ h ∷ []) (p .1) in
@@ -229,21 +230,17 @@ unfolding NoNewline Digit
 digits-no-newline [] e = tt
 digits-no-newline (b ∷ bs) e = let s = a-digit b bs e in ((λ k. omega (arith, s .0)), digits-no-newline bs (s .1))
 
--- a date without its newline
-abbrev dateBody : Date → List ℕ
-dateBody x = fourDigits (x .year) ++ (dash ∷ twoDigits (x .month) ++ (dash ∷ twoDigits (x .day)))
-
-body-no-newline : (x : Date) → NoNewline (dateBody x)
-unfolding NoNewline
-body-no-newline x = (byte _, (byte _, (byte _, (byte _, ((λ e. omega arith), (byte _, (byte _, ((λ e. omega arith), (byte _, (byte _, tt))))))))))
+date-no-newline : (x : Date) → NoNewline (fullDateBytes x)
+unfolding NoNewline fullDateBytes
+date-no-newline x = (byte _, (byte _, (byte _, (byte _, ((λ e. omega arith), (byte _, (byte _, ((λ e. omega arith), (byte _, (byte _, tt))))))))))
   where
     byte : (n : ℕ) → 48 + n ≡ newline → ⊥
     byte n e = omega arith
 
 pub first-of : (kind : Kind) (d : ℕ) (rest : List ℕ) → linesOf (lineOf kind d ++ rest) ≡ lineOf kind d ∷ linesOf rest
-unfolding lineOf dateLine
+unfolding lineOf dateLine fullDateBytes
 first-of Days d rest = ended (digitsOf d) rest (digits-no-newline (digitsOf d) (digits-all d))
-first-of Dates d rest = ended (dateBody (isoOn d)) rest (body-no-newline (isoOn d))
+first-of Dates d rest = ended (fullDateBytes (isoOn d)) rest (date-no-newline (isoOn d))
 
 -- what reading a text says where the text is the lines of days
 pub record Back (kind : Kind) (ds : List ℕ) : Type 0 where
@@ -324,7 +321,7 @@ each-read kind (l ∷ ls) e = go (eqb (lineRead kind l .refusal) 0) refl e (each
 
 -- the lines of days have at most 11 bytes each
 line-short : (kind : Kind) (d : ℕ) → d ≤ lastDay → length (lineOf kind d) ≤ 11
-unfolding lineOf dateLine
+unfolding lineOf dateLine fullDateBytes
 line-short Dates d h = omega arith
 line-short Days d h = simp length-append (omega (arith, digits-length 5 d (omega arith)))
 

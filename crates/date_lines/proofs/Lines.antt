@@ -16,6 +16,7 @@ use Rattle.text.proofs.Reading.{read-few}
 use Rattle.text.proofs.Printing.{digits-length}
 use Rattle.words.specs.Words.{dash}
 use Rattle.civil.specs.declared.Date.{Date}
+use Rattle.dated.specs.Dated.{fullDateBytes}
 use Rattle.iso.specs.Calendar.{isoOn, isoDayOf}
 use Rattle.date_lines.specs.declared.Kind.the-variants.{Dates, Days}
 use Rattle.date_lines.specs.Lines.{dateDigits, isDateLine, dateIn, dateRead, dateLine, lineOf}
@@ -65,7 +66,7 @@ module _ (l : List ℕ) where
 
 -- how long a line is
 pub date-length : (d : ℕ) → length (lineOf Dates d) ≡ 11
-unfolding lineOf dateLine
+unfolding lineOf dateLine fullDateBytes
 date-length d = refl
 
 pub number-fits : (d : ℕ) → d < 4294967296 → length (lineOf Days d) ≤ lineCapacity

@@ -8,11 +8,12 @@ use lib.ListN.{length, getD}
 use Rattle.days.specs.declared.NumberAnswer.{NumberAnswer}
 use Rattle.days.specs.Refusals.{badInput, badLine}
 use Rattle.days.specs.Days.{noNumber}
-use Rattle.text.specs.Decimal.{allDigits, valueOf, digitByte, digitsOf}
+use Rattle.text.specs.Decimal.{allDigits, valueOf, digitsOf}
 use Rattle.text.specs.Lines.{newline}
 use Rattle.text.specs.Inputs.{dayInput}
 use Rattle.words.specs.Words.{dash}
 use Rattle.civil.specs.declared.Date.{Date}
+use Rattle.dated.specs.Dated.{fullDateBytes}
 use Rattle.iso.specs.Calendar.{isoOn, isoDayOf}
 use Rattle.date_lines.specs.declared.Kind.{Kind}
 use Rattle.date_lines.specs.declared.Kind.the-variants.{Dates, Days}
@@ -37,15 +38,9 @@ dateRead l = cond (isDateLine l) (isoDayOf (dateIn (valueOf (dateDigits l)))) (n
 unfoldable pub numberLineRead : List ℕ → NumberAnswer
 numberLineRead l = cond (eqb (dayInput l .refusal) badInput) (noNumber badLine) (dayInput l)
 
--- a number's last two and last four digits
-abbrev pub twoDigits : ℕ → List ℕ
-twoDigits n = digitByte (n / 10 % 10) ∷ digitByte (n % 10) ∷ []
-
-abbrev pub fourDigits : ℕ → List ℕ
-fourDigits n = digitByte (n / 1000 % 10) ∷ digitByte (n / 100 % 10) ∷ twoDigits n
-
+-- the date with zeros in front, and its newline
 unfoldable pub dateLine : Date → List ℕ
-dateLine x = fourDigits (x .year) ++ (dash ∷ twoDigits (x .month) ++ (dash ∷ twoDigits (x .day) ++ (newline ∷ [])))
+dateLine x = fullDateBytes x ++ (newline ∷ [])
 
 -- by the kind of the lines
 unfoldable pub lineRead : Kind → List ℕ → NumberAnswer

@@ -7,6 +7,7 @@ use mathlib.Core.Bool.{true, false≢true}
 use mathlib.Core.List.{List, [], _∷_, _++_, append-assoc}
 use borrow.Author.Tests.{ne-eqb}
 use Rattle.catalogue.specs.Catalogue.{editionText}
+use Rattle.names.specs.declared.Print.the-variants.{Numbers as ByNumbers}
 use Rattle.panchanga.specs.TrueLongitudes.{isEdition}
 use Rattle.query.specs.declared.Query.{Query}
 use Rattle.reasons.specs.Conditions.{Cause}
@@ -24,16 +25,16 @@ module _ (q : Query) (n : ℕ) where
   unfolding isEdition
   some-refusal refusal e z = false≢true (ap (λ (x : Numbers). isEdition (x .edition)) e ∙ edition-told q n (ap (λ (x : Numbers). x .refusal) (sym e) ∙ z))
 
-  pub refused-line : (refusal : ℕ) → noAnswer refusal ≡ whyOf q n → explanationOf q n ≡ refusalLine refusal
+  pub refused-line : (refusal : ℕ) → noAnswer refusal ≡ whyOf q n → explanationOf ByNumbers q n ≡ refusalLine refusal
   unfolding answerLine
   refused-line refusal e = rw (sym e, ne-eqb refusal 0 (some-refusal refusal e))
 
   pub told-line :
       (l : Line) (edition : ℕ) {cause : Cause} →
       record { refusal = 0; edition = edition; cause = cause } ≡ whyOf q n →
-      withByte (withBytes (withBytes (withBytes l (dayBytes n)) (verdictText cause)) (editionText edition)) newline ≡ withBytes l (explanationOf q n)
+      withByte (withBytes (withBytes (withBytes l (dayBytes n)) (verdictText ByNumbers cause)) (editionText edition)) newline ≡ withBytes l (explanationOf ByNumbers q n)
   unfolding answerLine
-  told-line l edition {cause} e = rw (sym e) (together (dayBytes n) (verdictText cause) (editionText edition))
+  told-line l edition {cause} e = rw (sym e) (together (dayBytes n) (verdictText ByNumbers cause) (editionText edition))
     where
       together : (a b c : List ℕ) → withByte (withBytes (withBytes (withBytes l a) b) c) newline ≡ withBytes l (a ++ (b ++ (c ++ (newline ∷ []))))
       together a b c = simp (with-byte-is, with-bytes-append, append-assoc)

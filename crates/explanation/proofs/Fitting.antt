@@ -15,6 +15,9 @@ use Rattle.days.specs.Days.{lastDay, pairAt, weekdayOn}
 use Rattle.days.specs.Weekdays.{inSet}
 use Rattle.longitudes.specs.Longitudes.{longitudeAt}
 use Rattle.longitudes.proofs.Table.{longitude-small}
+use Rattle.names.specs.declared.Kind.{Kind}
+use Rattle.names.specs.declared.Kind.the-variants.{Tithi, Nakshatra, Yoga, Karana, Sign, Month, Fortnight, Weekday}
+use Rattle.names.specs.declared.Print.the-variants.{Numbers as ByNumbers}
 use Rattle.panchanga.proofs.Bounds.{tithi-small, nakshatra-small, yoga-small, karana-range}
 use Rattle.query.specs.declared.BodyArcs.{BodyArcs}
 use Rattle.query.specs.declared.Weekdays.{Weekdays}
@@ -32,25 +35,25 @@ use Rattle.text.proofs.Printing.{digits-length}
 use Rattle.words.specs.Names.{bodyNames, trueNames}
 use Rattle.words.specs.Words.{nameAt}
 use Rattle.words.proofs.Names.{body-name-short, true-name-short}
-use Rattle.explanation.specs.Explanations.{weekdaysText, elementName, numbersText, arcsText, verdictOf, verdictText, answerLine, explanationOf}
+use Rattle.explanation.specs.Explanations.{weekdaysText, elementKind, kindWord, elementText, numbersText, arcsText, verdictOf, verdictText, answerLine, explanationOf}
 use Rattle.explanation.proofs.Sizes.{names-short, numbers-short, arc-short, true-small}
 
 -- what each of some conditions says where it does not hold is short
 Short : List Condition → Type 0
 Short [] = Unit {0}
-Short (c ∷ cs) = (c .holds ≡ false → length (verdictText (c .cause)) ≤ 129) × Short cs
+Short (c ∷ cs) = (c .holds ≡ false → length (verdictText ByNumbers (c .cause)) ≤ 129) × Short cs
 
-first-short : (cs : List Condition) → Short cs → length (verdictText (firstUnmet cs)) ≤ 129
+first-short : (cs : List Condition) → Short cs → length (verdictText ByNumbers (firstUnmet cs)) ≤ 129
 unfolding Short firstUnmet verdictOf
 first-short [] h = omega arith
 first-short (c ∷ cs) h = go (c .holds) refl (first-short cs (h .1))
   where
-    go : (b : Bool) → c .holds ≡ b → length (verdictText (firstUnmet cs)) ≤ 129 → length (verdictText (cond b (firstUnmet cs) (c .cause))) ≤ 129
+    go : (b : Bool) → c .holds ≡ b → length (verdictText ByNumbers (firstUnmet cs)) ≤ 129 → length (verdictText ByNumbers (cond b (firstUnmet cs) (c .cause))) ≤ 129
     go true e k = k
     go false e k = h .0 e
 
 -- those in a row are, where each of them is, with others behind them
-row-short : (f : ℕ → Condition) (count : ℕ) (others : List Condition) → ((k : ℕ) → k < count → length (verdictText (f k .cause)) ≤ 129) → Short others → (n k : ℕ) → k + n ≤ count → Short (row f k n ++ others)
+row-short : (f : ℕ → Condition) (count : ℕ) (others : List Condition) → ((k : ℕ) → k < count → length (verdictText ByNumbers (f k .cause)) ≤ 129) → Short others → (n k : ℕ) → k + n ≤ count → Short (row f k n ++ others)
 unfolding Short row
 row-short f count others each rest zero k h = rest
 row-short f count others each rest (suc n) k h = (λ _. each k (omega arith), row-short f count others each rest n (k + 1) (omega arith))
@@ -63,7 +66,7 @@ not-in-set a w e = go (a .given) e
     go true k = k
     go false k = absurd (true≢false k)
 
-end-short : (k day found : ℕ) → day ≤ lastDay → length (verdictOf (bound day) k found) ≤ 129
+end-short : (k day found : ℕ) → day ≤ lastDay → length (verdictOf ByNumbers (bound day) k found) ≤ 129
 unfolding verdictOf
 end-short k day found h = go (eqb k 1)
   where
@@ -71,22 +74,23 @@ end-short k day found h = go (eqb k 1)
     go true = simp length-append (omega (arith, day-short day h))
     go false = simp length-append (omega (arith, day-short day h))
 
-weekday-short : (set found : ℕ) → found < 7 → inSet set found ≡ false → length (verdictOf (anyOf set) 3 found) ≤ 129
+weekday-short : (set found : ℕ) → found < 7 → inSet set found ≡ false → length (verdictOf ByNumbers (anyOf set) 3 found) ≤ 129
 unfolding verdictOf weekdaysText
 weekday-short set found h e = simp length-append (omega (arith, names-short set found h e))
 
-name-short : (k : ℕ) → length (elementName k) ≤ 9
-name-short k = go (eqb k 4) (eqb k 5) (eqb k 6)
-  where
-    go : (t n y : Bool) → length (cond t (ascii "tithi") (cond n (ascii "nakshatra") (cond y (ascii "yoga") (ascii "karana")))) ≤ 9
-    go true n y = omega arith
-    go false true y = omega arith
-    go false false true = omega arith
-    go false false false = omega arith
+pub word-short : (kind : Kind) → length (kindWord kind) ≤ 9
+word-short Tithi = omega arith
+word-short Nakshatra = omega arith
+word-short Yoga = omega arith
+word-short Karana = omega arith
+word-short Sign = omega arith
+word-short Month = omega arith
+word-short Fortnight = omega arith
+word-short Weekday = omega arith
 
-element-short : (k set found : ℕ) → eqb k 3 ≡ false → found < 100 → length (verdictOf (anyOf set) k found) ≤ 129
-unfolding verdictOf numbersText
-element-short k set found e h = rw e (simp length-append (omega (arith, name-short k, numbers-short set 0 30 (omega arith), digits-length 1 found (omega arith))))
+element-short : (k set found : ℕ) → eqb k 3 ≡ false → found < 100 → length (verdictOf ByNumbers (anyOf set) k found) ≤ 129
+unfolding verdictOf elementText numbersText
+element-short k set found e h = rw e (simp length-append (omega (arith, word-short (elementKind k), numbers-short set 0 30 (omega arith), digits-length 1 found (omega arith))))
 
 arcs-short : (name : List ℕ) (asked : BodyArcs) (found : ℕ) → length name ≤ 12 → bodyArcsInRange asked ≡ true → found < 1296000 → length (arcsText name asked found) ≤ 74
 unfolding arcsText
@@ -100,13 +104,13 @@ in-range true a h = refl
 in-range false a h = absurd (true≢false (sym a ∙ h refl))
 
 module _ (q : Query) (n : ℕ) (arcs : arcsInRange (q .arcs) ≡ true) (others : trueArcsInRange (q .«true_arcs») ≡ true) where
-  body-short : (k : ℕ) → k < 9 → length (verdictText (arcsAsked (q .arcs) (pairAt n) k .cause)) ≤ 129
+  body-short : (k : ℕ) → k < 9 → length (verdictText ByNumbers (arcsAsked (q .arcs) (pairAt n) k .cause)) ≤ 129
   unfolding verdictOf
   body-short k l =
       let back : 7 + k - 7 ≡ k = omega arith in
       rw back (omega (arith, arcs-short (nameAt bodyNames k) (arcsAt (q .arcs) k) (longitudeAt k (pairAt n)) (omega (arith, body-name-short k)) (in-range _ arcs (arcs-false (q .arcs) k l)) (longitude-small k (pairAt n))))
 
-  place-short : (k : ℕ) → k < 7 → length (verdictText (trueArcsAsked (q .edition) (q .«true_arcs») (pairAt n) k .cause)) ≤ 129
+  place-short : (k : ℕ) → k < 7 → length (verdictText ByNumbers (trueArcsAsked (q .edition) (q .«true_arcs») (pairAt n) k .cause)) ≤ 129
   unfolding verdictOf
   place-short k l =
       let back : 17 + k - 17 ≡ k = omega arith in
@@ -145,7 +149,7 @@ arcs-of q e =
     let elements = and-eq-true-iff (weekdaysInRange (q .weekdays)) _ .0 e .1 in
     and-eq-true-iff (arcsInRange (q .arcs)) (trueArcsInRange (q .«true_arcs»)) .0 (and-eq-true-iff (elementsInRange q) _ .0 elements .1)
 
-pub explanation-fits : (q : Query) (n : ℕ) → whyOf q n .refusal ≡ 0 → length (explanationOf q n) ≤ lineCapacity
+pub explanation-fits : (q : Query) (n : ℕ) → whyOf q n .refusal ≡ 0 → length (explanationOf ByNumbers q n) ≤ lineCapacity
 unfolding answerLine
 explanation-fits q n r =
     let a = accepted-question q n (answered q n r) in

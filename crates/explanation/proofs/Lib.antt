@@ -4,3 +4,4 @@ mod Sizes
 pub mod Fitting
 mod Answers
 pub mod Worked
+mod Elements

@@ -1,5 +1,5 @@
--- Worked cases: a line for each case of the answer, from the meanings. Both sides compute, so that `refl` proves them.
--- Assumes nothing.
+-- Worked cases: a line for each case of the answer, by numbers and by names, from the meanings. Both sides compute, so
+-- that `refl` proves them. Assumes nothing.
 use Prim.Native.Nat.{ℕ}
 use mathlib.Core.Path.{_≡_, refl}
 use mathlib.Core.Bool.{true}
@@ -13,6 +13,8 @@ use Rattle.days.specs.Days.{daysFrom}
 use Rattle.days.specs.Weekdays.{inSet}
 use Rattle.integers.specs.Integers.{floorOver, reduced}
 use Rattle.longitudes.specs.Longitudes.{differenceOf, table, meanLongitude, longitudeAt}
+use Rattle.names.specs.declared.Print.the-variants.{Numbers as ByNumbers, Names as ByNames, Csv}
+use Rattle.names.specs.Names.{nameOf}
 use Rattle.panchanga.specs.TrueLongitudes.{bhuja, equation, signed, corrected, trueLongitude, isEdition, trueMoon}
 use Rattle.panchanga.specs.Elements.{karanaAfter}
 use Rattle.panchanga.specs.OnDays.{trueSunAt, trueMoonAt, tithiAt, nakshatraAt, yogaAt, karanaAt}
@@ -32,7 +34,7 @@ use Rattle.text.specs.Ascii.{ascii}
 use Rattle.text.specs.Decimal.{digitsWithin, digitsOf}
 use Rattle.text.specs.Lines.{refusalLine}
 use Rattle.words.specs.Words.{nameAt}
-use Rattle.explanation.specs.Explanations.{nameIn, namesIn, numberIn, numbersIn, setBytes, arcBytes, weekdaysText, numbersText, arcsText, verdictOf, answerLine, explanationOf}
+use Rattle.explanation.specs.Explanations.{nameIn, namesIn, numberIn, numbersIn, elementIn, elementsIn, setBytes, arcBytes, weekdaysText, numbersText, namesText, arcsText, elementText, verdictOf, answerLine, explanationOf}
 
 -- a query of a span in an edition
 abbrev asking : ℕ → ℕ → ℕ → Weekdays → Asked → Asked → Asked → Asked → List BodyArcs → List BodyArcs → Query
@@ -87,20 +89,27 @@ abbrev trueSaturn0 : Query
 trueSaturn0 = asking 0 401599 1 noWeekdays notAsked notAsked notAsked notAsked anywhere (set noTrue 6 (onlyArc (arc 0 3600)))
 
 pub worked :
-    explanationOf tornPage 33649
-    ∷ explanationOf tornPage 33650
-    ∷ explanationOf tithi14 3
-    ∷ explanationOf tithi14 10
-    ∷ explanationOf tithi14 7
-    ∷ explanationOf nakshatra7 7
-    ∷ explanationOf yoga8 7
-    ∷ explanationOf saturnInTwo 7
-    ∷ explanationOf tithi14 401600
-    ∷ explanationOf tithis 33649
-    ∷ explanationOf karanas 33649
-    ∷ explanationOf trueSun34 33649
-    ∷ explanationOf trueMoonInTwo 33649
-    ∷ explanationOf trueSaturn0 33649
+    explanationOf ByNumbers tornPage 33649
+    ∷ explanationOf ByNumbers tornPage 33650
+    ∷ explanationOf ByNumbers tithi14 3
+    ∷ explanationOf ByNumbers tithi14 10
+    ∷ explanationOf ByNumbers tithi14 7
+    ∷ explanationOf ByNumbers nakshatra7 7
+    ∷ explanationOf ByNumbers yoga8 7
+    ∷ explanationOf ByNumbers saturnInTwo 7
+    ∷ explanationOf ByNumbers tithi14 401600
+    ∷ explanationOf ByNumbers tithis 33649
+    ∷ explanationOf ByNumbers karanas 33649
+    ∷ explanationOf ByNumbers trueSun34 33649
+    ∷ explanationOf ByNumbers trueMoonInTwo 33649
+    ∷ explanationOf ByNumbers trueSaturn0 33649
+    ∷ explanationOf ByNames tornPage 33650
+    ∷ explanationOf ByNames tithis 33649
+    ∷ explanationOf ByNames karanas 33649
+    ∷ explanationOf ByNames yoga8 7
+    ∷ explanationOf ByNames trueSun34 33649
+    ∷ explanationOf ByNames tithi14 401600
+    ∷ explanationOf Csv tithis 33649
     ∷ []
     ≡ ascii "33649 1612-5-14 fits\n"
     ∷ ascii "33650 1612-5-15 does not fit: weekday asked monday found tuesday\n"
@@ -116,8 +125,15 @@ pub worked :
     ∷ ascii "33649 1612-5-14 does not fit: true_sun asked 34:0:0 1:0:0 found 35:44:8\n"
     ∷ ascii "33649 1612-5-14 does not fit: true_moon asked 204:44:2 0:0:1 0:0:0 0:0:1 found 204:47:23 edition 2\n"
     ∷ ascii "33649 1612-5-14 does not fit: true_saturn asked 0:0:0 1:0:0 found 326:42:29\n"
+    ∷ ascii "33650 1612-5-15 does not fit: weekday asked monday found tuesday\n"
+    ∷ ascii "33649 1612-5-14 does not fit: tithi asked shukla-pratipada shukla-chaturdashi amavasya found purnima\n"
+    ∷ ascii "33649 1612-5-14 does not fit: karana asked bava kimstughna found vishti\n"
+    ∷ ascii "7 1520-3-26 does not fit: yoga asked shula found sukarma edition 2\n"
+    ∷ ascii "33649 1612-5-14 does not fit: true_sun asked 34:0:0 1:0:0 found 35:44:8\n"
+    ∷ ascii "refused 2\n"
+    ∷ ascii "33649 1612-5-14 does not fit: tithi asked 0 13 29 found 14\n"
     ∷ []
-unfolding editionText dateBytes leap monthDays sameDate next dateOn dateOfDay inSet floorOver reduced differenceOf table meanLongitude longitudeAt bhuja equation signed corrected trueLongitude isEdition trueMoon karanaAfter trueSunAt trueMoonAt tithiAt nakshatraAt yogaAt karanaAt sighraTable mandaTable planetApogees rowOf onLine straightLine withinHalf sighraSize mandaSize halfCorrected mandaAnomaly mandaCorrected secondAnomaly truePlanet meanPlanet firstAnomaly truePlanetAt hasNumber withNumber meets weekdayMet givenArcs inArc inSome inArcs trueLongitudeAt numbersInRange weekdaysInRange arcInRange bodyArcsInRange arcsInRange trueArcsInRange elementsInRange conditionsInRange refusalOf row conditionsOn firstUnmet refusalOn whyOf digitsWithin digitsOf refusalLine nameAt dayBytes angleBytes nameIn namesIn numberIn numbersIn arcBytes weekdaysText numbersText arcsText verdictOf answerLine
+unfolding editionText dateBytes leap monthDays sameDate next dateOn dateOfDay inSet floorOver reduced differenceOf table meanLongitude longitudeAt bhuja equation signed corrected trueLongitude isEdition trueMoon karanaAfter trueSunAt trueMoonAt tithiAt nakshatraAt yogaAt karanaAt sighraTable mandaTable planetApogees rowOf onLine straightLine withinHalf sighraSize mandaSize halfCorrected mandaAnomaly mandaCorrected secondAnomaly truePlanet meanPlanet firstAnomaly truePlanetAt hasNumber withNumber meets weekdayMet givenArcs inArc inSome inArcs trueLongitudeAt numbersInRange weekdaysInRange arcInRange bodyArcsInRange arcsInRange trueArcsInRange elementsInRange conditionsInRange refusalOf row conditionsOn firstUnmet refusalOn whyOf digitsWithin digitsOf refusalLine nameAt nameOf dayBytes angleBytes nameIn namesIn numberIn numbersIn elementIn elementsIn arcBytes weekdaysText numbersText namesText arcsText elementText verdictOf answerLine
 worked = refl
 
 -- a set of one is written as its number is: the thirty numbers, side by side

@@ -10,6 +10,7 @@ use lib.ListN.{length, length-append}
 use Rattle.days.specs.Days.{lastDay, daysFrom}
 use Rattle.entries.specs.Runs.{filtered}
 use Rattle.panchanga.specs.TrueLongitudes.{isEdition}
+use Rattle.names.specs.declared.Print.{Print}
 use Rattle.query.specs.declared.Query.{Query}
 use Rattle.query.specs.Query.{conditionsMet, refusalOf}
 use Rattle.query.specs.SunArcs.{withSunArcs}
@@ -54,19 +55,19 @@ visited-few : (q : Query) → refusalOf q ≡ 0 → length (visitedDays q) ≤ l
 unfolding visitedDays
 visited-few q e = omega (arith, visited-short q (spanLength q) (q .first), accepted-by q e .last)
 
-lines-short : (ed : ℕ) → isEdition ed ≡ true → (ds : List ℕ) → EachDay ds → length (dayLines ed ds) ≤ 160 * length ds
+lines-short : (form : Print) (ed : ℕ) → isEdition ed ≡ true → (ds : List ℕ) → EachDay ds → length (dayLines form ed ds) ≤ 160 * length ds
 unfolding EachDay dayLines
-lines-short ed t [] each = omega arith
-lines-short ed t (d ∷ ds) each = simp length-append (omega (arith, line-fits ed d t (each .0), lines-short ed t ds (each .1)))
+lines-short form ed t [] each = omega arith
+lines-short form ed t (d ∷ ds) each = simp length-append (omega (arith, line-fits form ed d t (each .0), lines-short form ed t ds (each .1)))
 
-module _ (q : Query) (e : refusalOf q ≡ 0) where
-  pub heading-short : length (headingOf q) ≤ lineCapacity
+module _ (form : Print) (q : Query) (e : refusalOf q ≡ 0) where
+  pub heading-short : length (headingOf form q) ≤ lineCapacity
   heading-short =
       let by = accepted-by q e in
-      heading-fits _ _ _ (omega (arith, matching-short q, by .last)) (omega (arith, visited-few (withSunArcs q) (same-refusal q ∙ e)))
+      heading-fits form _ _ _ (omega (arith, matching-short q, by .last)) (omega (arith, visited-few (withSunArcs q) (same-refusal q ∙ e)))
 
-  pub output-short : length (outputOf q) ≤ 64256160
+  pub output-short : length (outputOf form q) ≤ 64256160
   unfolding outputOf
   output-short =
       let by = accepted-by q e in
-      simp length-append (omega (arith, heading-short, lines-short (q .edition) (by .edition) (matchingDays q) (each-day q e), matching-short q, by .last))
+      simp length-append (omega (arith, heading-short, lines-short form (q .edition) (by .edition) (matchingDays q) (each-day q e), matching-short q, by .last))

@@ -6,6 +6,7 @@ use Prim.Native.Nat.{ℕ, _≤_}
 use native.Mathlib.Omega.{arith}
 use lib.ListN.{length, take, drop}
 use lib.Seq.{take-append-seam}
+use Rattle.names.specs.declared.Print.{Print}
 use Rattle.query.specs.declared.Query.{Query}
 use Rattle.query.specs.Query.{refusalOf}
 use Rattle.query.specs.SunArcs.{withSunArcs}
@@ -21,30 +22,30 @@ use Rattle.find.specs.Output.{headingOf, outputOf, NextBytes}
 use Rattle.find.proofs.Bounds.{heading-short}
 use Rattle.find.proofs.Next.{next-of}
 
-module _ (q : Query) (e : refusalOf q ≡ 0) (n k : ℕ) (count : n ≡ length (matchingDays q)) (visits : k ≡ length (visitedDays (withSunArcs q))) (before : List ℕ) (room : lineCapacity ≤ length before) (piece : Piece)
-    (after : List ℕ) (told : piece ≡ ofEdition (q .edition) (headingPiece (q .edition) n k (length before)))
-    (put : after ≡ leftInEdition (q .edition) before (headingAfter (q .edition) n k before)) where
+module _ (form : Print) (q : Query) (e : refusalOf q ≡ 0) (n k : ℕ) (count : n ≡ length (matchingDays q)) (visits : k ≡ length (visitedDays (withSunArcs q))) (before : List ℕ) (room : lineCapacity ≤ length before) (piece : Piece)
+    (after : List ℕ) (told : piece ≡ ofEdition (q .edition) (headingPiece form (q .edition) n k (length before)))
+    (put : after ≡ leftInEdition (q .edition) before (headingAfter form (q .edition) n k before)) where
   edition : isEdition (q .edition) ≡ true
   edition = accepted-by q e .edition
 
-  answer : piece ≡ headingPiece (q .edition) n k (length before)
+  answer : piece ≡ headingPiece form (q .edition) n k (length before)
   answer = told ∙ piece-given (q .edition) edition _
 
-  counted : catalogueHeading (q .edition) n k ≡ headingOf q
-  counted = ap₂ (catalogueHeading (q .edition)) count visits
+  counted : catalogueHeading form (q .edition) n k ≡ headingOf form q
+  counted = ap₂ (catalogueHeading form (q .edition)) count visits
 
-  headed : Headed (q .edition) n k before (thePiece (length (catalogueHeading (q .edition) n k)) 0) (withFront (catalogueHeading (q .edition) n k) before)
-  headed = heading-put (q .edition) n k before (omega (arith, heading-short q e, ap length counted))
+  headed : Headed form (q .edition) n k before (thePiece (length (catalogueHeading form (q .edition) n k)) 0) (withFront (catalogueHeading form (q .edition) n k) before)
+  headed = heading-put form (q .edition) n k before (omega (arith, heading-short form q e, ap length counted))
 
-  pub heading-bytes : piece .bytes ≡ length (headingOf q)
+  pub heading-bytes : piece .bytes ≡ length (headingOf form q)
   heading-bytes = ap (λ (p : Piece). p .bytes) (answer ∙ headed .answer) ∙ ap length counted
 
-  pub heading-taken : take (piece .bytes) after ≡ headingOf q
+  pub heading-taken : take (piece .bytes) after ≡ headingOf form q
   heading-taken =
       ap (λ (n : ℕ). take n after) (ap (λ (p : Piece). p .bytes) (answer ∙ headed .answer))
-      ∙ ap (take (length (catalogueHeading (q .edition) n k))) (put ∙ buffer-given (q .edition) edition _ _ ∙ headed .put)
-      ∙ take-append-seam (catalogueHeading (q .edition) n k) (drop (length (catalogueHeading (q .edition) n k)) before)
+      ∙ ap (take (length (catalogueHeading form (q .edition) n k))) (put ∙ buffer-given (q .edition) edition _ _ ∙ headed .put)
+      ∙ take-append-seam (catalogueHeading form (q .edition) n k) (drop (length (catalogueHeading form (q .edition) n k)) before)
       ∙ counted
 
-  pub heading-next : NextBytes q 0 (take (piece .bytes) after)
-  heading-next = next-of q 0 (take (piece .bytes) after) (dayLines (q .edition) (matchingDays q)) (unfold outputOf in ap (λ (l : List ℕ). l ++ dayLines (q .edition) (matchingDays q)) (sym heading-taken))
+  pub heading-next : NextBytes form q 0 (take (piece .bytes) after)
+  heading-next = next-of form q 0 (take (piece .bytes) after) (dayLines form (q .edition) (matchingDays q)) (unfold outputOf in ap (λ (l : List ℕ). l ++ dayLines form (q .edition) (matchingDays q)) (sym heading-taken))

@@ -10,6 +10,7 @@ use borrow.Author.Tests.{eq-eqb, le-leb}
 use lib.Dec.{eqb}
 use lib.ListN.{length, take, drop}
 use lib.Seq.{take-at}
+use Rattle.names.specs.declared.Print.{Print}
 use Rattle.query.specs.declared.Query.{Query}
 use Rattle.query.specs.Query.{refusalOf}
 use Rattle.query.specs.SunArcs.{withSunArcs}
@@ -74,5 +75,5 @@ module _ (q : Query) (e : refusalOf q ≡ 0) where
     pub listed : frontDays after n ≡ matchingDays q
     listed = ap (λ (l : List ℕ). listedFrom l 0) front-is ∙ listed-entries (matchingDays q) (each-day q e)
 
-    pub each : (room : ℕ) → lineCapacity ≤ room → EachFits (q .edition) room (frontDays after n)
-    each room h = rw listed (each-fits (q .edition) (accepted-by q e .edition) room (matchingDays q) h (each-day q e))
+    pub each : (form : Print) (room : ℕ) → lineCapacity ≤ room → EachFits form (q .edition) room (frontDays after n)
+    each form room h = rw listed (each-fits form (q .edition) (accepted-by q e .edition) room (matchingDays q) h (each-day q e))

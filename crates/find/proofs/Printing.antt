@@ -6,6 +6,7 @@ use mathlib.Core.List.{List, _++_, append-assoc}
 use Prim.Native.Nat.{ℕ, _+_, _-_, _≤_, _<_}
 use native.Mathlib.Omega.{arith}
 use lib.ListN.{length, take, drop, length-append, length-drop}
+use Rattle.names.specs.declared.Print.{Print}
 use Rattle.query.specs.declared.Query.{Query}
 use Rattle.query.specs.Query.{refusalOf}
 use Rattle.catalogue.specs.declared.Piece.{Piece}
@@ -19,48 +20,48 @@ use Rattle.find.specs.Output.{outputOf, NextBytes}
 use Rattle.find.proofs.Bounds.{output-short}
 use Rattle.find.proofs.Next.{next-of, due-of, left-of}
 
-module _ (q : Query) (days : List ℕ) (before : ℕ) where
+module _ (form : Print) (q : Query) (days : List ℕ) (before : ℕ) where
   abbrev due : ℕ → List ℕ
-  due next = dayLines (q .edition) (listedFrom days next)
+  due next = dayLines form (q .edition) (listedFrom days next)
 
   abbrev end : ℕ
   end = before + length (due 0)
 
   pub record Printing (room : ℕ) (buffer : List ℕ) (written next : ℕ) : Type 0 where
     pub same : length buffer ≡ room
-    pub each : EachFits (q .edition) room (listedFrom days next)
-    pub left : drop written (outputOf q) ≡ due next ++ drop end (outputOf q)
+    pub each : EachFits form (q .edition) room (listedFrom days next)
+    pub left : drop written (outputOf form q) ≡ due next ++ drop end (outputOf form q)
     pub sum : written + length (due next) ≡ end
 
-  pub printing-start : (buffer : List ℕ) → EachFits (q .edition) (length buffer) (listedFrom days 0) → NextBytes q before (due 0) → Printing (length buffer) buffer before 0
-  printing-start buffer each n = record { same = refl; each = each; left = due-of q before (due 0) n; sum = refl }
+  pub printing-start : (buffer : List ℕ) → EachFits form (q .edition) (length buffer) (listedFrom days 0) → NextBytes form q before (due 0) → Printing (length buffer) buffer before 0
+  printing-start buffer each n = record { same = refl; each = each; left = due-of form q before (due 0) n; sum = refl }
 
   module _ (room : ℕ) (buffer : List ℕ) (written next : ℕ) (p : Printing room buffer written next) (piece : Piece) (after : List ℕ)
-      (t : isEdition (q .edition) ≡ true) (told : piece ≡ ofEdition (q .edition) (linesPiece (q .edition) days next (length buffer))) (put : after ≡ leftInEdition (q .edition) buffer (linesAfter (q .edition) days next buffer)) where
-    pub step : Going (q .edition) days next buffer piece after
-    step = rw (told ∙ piece-given (q .edition) t _, put ∙ buffer-given (q .edition) t _ _) (going (q .edition) days next buffer (rw (p .same) (p .each)))
+      (t : isEdition (q .edition) ≡ true) (told : piece ≡ ofEdition (q .edition) (linesPiece form (q .edition) days next (length buffer))) (put : after ≡ leftInEdition (q .edition) buffer (linesAfter form (q .edition) days next buffer)) where
+    pub step : Going form (q .edition) days next buffer piece after
+    step = rw (told ∙ piece-given (q .edition) t _, put ∙ buffer-given (q .edition) t _ _) (going form (q .edition) days next buffer (rw (p .same) (p .each)))
 
-    left-now : drop written (outputOf q) ≡ take (piece .bytes) after ++ (due (piece .next) ++ drop end (outputOf q))
-    left-now = p .left ∙ ap (λ (l : List ℕ). l ++ drop end (outputOf q)) (step .lines) ∙ append-assoc (take (piece .bytes) after) (due (piece .next)) (drop end (outputOf q))
+    left-now : drop written (outputOf form q) ≡ take (piece .bytes) after ++ (due (piece .next) ++ drop end (outputOf form q))
+    left-now = p .left ∙ ap (λ (l : List ℕ). l ++ drop end (outputOf form q)) (step .lines) ∙ append-assoc (take (piece .bytes) after) (due (piece .next)) (drop end (outputOf form q))
 
-    pub next-piece : NextBytes q written (take (piece .bytes) after)
-    next-piece = next-of q written (take (piece .bytes) after) (due (piece .next) ++ drop end (outputOf q)) left-now
+    pub next-piece : NextBytes form q written (take (piece .bytes) after)
+    next-piece = next-of form q written (take (piece .bytes) after) (due (piece .next) ++ drop end (outputOf form q)) left-now
 
     -- all that is due is written
     pub printed : piece .bytes ≡ 0 → written ≡ end
     unfolding dayLines
-    printed none = omega (arith, p .sum, ap (λ (ds : List ℕ). length (dayLines (q .edition) ds)) (step .done none))
+    printed none = omega (arith, p .sum, ap (λ (ds : List ℕ). length (dayLines form (q .edition) ds)) (step .done none))
 
     -- the bytes of a piece, within the output
-    length-now : length (outputOf q) - written ≡ piece .bytes + length (due (piece .next) ++ drop end (outputOf q))
+    length-now : length (outputOf form q) - written ≡ piece .bytes + length (due (piece .next) ++ drop end (outputOf form q))
     length-now =
-        sym (length-drop written (outputOf q))
+        sym (length-drop written (outputOf form q))
         ∙ ap length left-now
-        ∙ length-append (take (piece .bytes) after) (due (piece .next) ++ drop end (outputOf q))
-        ∙ ap (λ (n : ℕ). n + length (due (piece .next) ++ drop end (outputOf q))) (step .front)
+        ∙ length-append (take (piece .bytes) after) (due (piece .next) ++ drop end (outputOf form q))
+        ∙ ap (λ (n : ℕ). n + length (due (piece .next) ++ drop end (outputOf form q))) (step .front)
 
     pub countable : refusalOf q ≡ 0 → (piece .bytes ≡ 0 → ⊥) → written + piece .bytes ≤ 64256160
-    countable e some = omega (arith, length-now, output-short q e)
+    countable e some = omega (arith, length-now, output-short form q e)
 
     pub fewer : (piece .bytes ≡ 0 → ⊥) → length (due (piece .next)) < length (due next)
     fewer some = omega (arith, step .front, ap length (step .lines) ∙ length-append (take (piece .bytes) after) (due (piece .next)))
@@ -71,7 +72,7 @@ module _ (q : Query) (days : List ℕ) (before : ℕ) where
           same = kept ∙ p .same;
           each = step .fits-on room (p .each);
           left =
-              ap (λ (n : ℕ). drop (written + n) (outputOf q)) (sym (step .front))
-              ∙ left-of q written (take (piece .bytes) after) (due (piece .next) ++ drop end (outputOf q)) left-now;
+              ap (λ (n : ℕ). drop (written + n) (outputOf form q)) (sym (step .front))
+              ∙ left-of form q written (take (piece .bytes) after) (due (piece .next) ++ drop end (outputOf form q)) left-now;
           sum = omega (arith, p .sum, step .front, ap length (step .lines) ∙ length-append (take (piece .bytes) after) (due (piece .next)));
         }

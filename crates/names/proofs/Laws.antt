@@ -2,17 +2,17 @@
 -- list, and a law that turns it into the rule at every place.
 -- Assumes nothing.
 use mathlib.Core.Path.{_≡_, refl, ap, sym, _∙_}
-use mathlib.Core.Bool.{Bool, true, false, _&&_, and-eq-true-iff}
+use mathlib.Core.Bool.{Bool, true, false, cond, _&&_, and-eq-true-iff}
 use mathlib.Core.List.{List, [], _∷_}
 use Prim.Native.Nat.{ℕ, zero, suc, _+_, _-_, _≤_, _<_}
 use native.Mathlib.Omega.{arith}
-use borrow.Author.Tests.{eqb-true, le-ltb}
-use lib.Dec.{eqb}
+use borrow.Author.Tests.{eqb-true, ltb-true, le-ltb}
+use lib.Dec.{eqb, ltb}
 use lib.ListN.{length}
 use Rattle.days.specs.declared.NumberAnswer.{NumberAnswer}
-use Rattle.days.specs.Days.{theNumber}
+use Rattle.days.specs.Days.{theNumber, noNumber}
+use Rattle.days.specs.Refusals.{badInput}
 use Rattle.words.specs.Words.{behindMark, smallByte, smallFrom, sameBytes, placeIn, nameAt}
-use Rattle.words.proofs.Names.{noLonger, name-length}
 use Rattle.names.specs.declared.Kind.{Kind}
 use Rattle.names.specs.declared.Kind.the-variants.{Tithi, Nakshatra, Yoga, Karana, Sign, Month, Fortnight, Weekday}
 use Rattle.names.specs.Names.{plainNames, otherNames, countOf, firstOf, nameRead, nameOf}
@@ -79,22 +79,37 @@ counted Month = (refl, refl)
 counted Fortnight = (refl, refl)
 counted Weekday = (refl, refl)
 
--- a kind has thirty names at most, and the first number is 0 or 1
-pub few : (k : Kind) → (countOf k ≤ 30) × (firstOf k ≤ 1)
-few Tithi = (omega arith, omega arith)
-few Nakshatra = (omega arith, omega arith)
-few Yoga = (omega arith, omega arith)
-few Karana = (omega arith, omega arith)
-few Sign = (omega arith, omega arith)
-few Month = (omega arith, omega arith)
-few Fortnight = (omega arith, omega arith)
-few Weekday = (omega arith, omega arith)
+-- a kind has one to thirty names, and the first number is 0 or 1
+pub few : (k : Kind) → (1 ≤ countOf k) × (countOf k ≤ 30) × (firstOf k ≤ 1)
+few Tithi = (omega arith, omega arith, omega arith)
+few Nakshatra = (omega arith, omega arith, omega arith)
+few Yoga = (omega arith, omega arith, omega arith)
+few Karana = (omega arith, omega arith, omega arith)
+few Sign = (omega arith, omega arith, omega arith)
+few Month = (omega arith, omega arith, omega arith)
+few Fortnight = (omega arith, omega arith, omega arith)
+few Weekday = (omega arith, omega arith, omega arith)
 
 name-at-place : (k : Kind) (i : ℕ) → nameOf k (firstOf k + i) ≡ nameAt (plainNames k) i
 unfolding nameOf
 name-at-place k i =
     let back : firstOf k + i - firstOf k ≡ i = omega arith in
     rw (le-ltb (firstOf k + i) (firstOf k) (omega arith), back)
+
+-- what a word is read as is one of the kind's numbers, or 0
+pub number-few : (k : Kind) (w : List ℕ) → nameRead k w .number < firstOf k + countOf k
+unfolding nameRead
+number-few k w = go (ltb (placeIn (plainNames k) w) (countOf k)) (ltb (placeIn (otherNames k) w) (countOf k)) refl refl
+  where
+    go :
+        (t u : Bool) →
+        ltb (placeIn (plainNames k) w) (countOf k) ≡ t →
+        ltb (placeIn (otherNames k) w) (countOf k) ≡ u →
+        cond t (theNumber (firstOf k + placeIn (plainNames k) w)) (cond u (theNumber (firstOf k + placeIn (otherNames k) w)) (noNumber badInput)) .number
+        < firstOf k + countOf k
+    go true u e f = omega (arith, ltb-true (placeIn (plainNames k) w) (countOf k) e)
+    go false true e f = omega (arith, ltb-true (placeIn (otherNames k) w) (countOf k) f)
+    go false false e f = omega (arith, few k)
 
 -- A PRINTED NAME is read as its number
 pub printed-read : (k : Kind) (i : ℕ) → i < countOf k → nameRead k (nameOf k (firstOf k + i)) ≡ theNumber (firstOf k + i)
@@ -109,15 +124,3 @@ pub names-differ : (k : Kind) (i j : ℕ) → i < countOf k → j < countOf k �
 names-differ k i j hi hj same =
     let one = ap (λ (a : NumberAnswer). a .number) (sym (printed-read k i hi) ∙ ap (nameRead k) same ∙ printed-read k j hj) in
     omega (arith, one)
-
--- the longest name, `krishna-chaturdashi`, has nineteen bytes
-plain-short : (k : Kind) (i : ℕ) → length (nameAt (plainNames k) i) ≤ 19
-unfolding noLonger
-plain-short Tithi i = name-length 19 (plainNames Tithi) refl i
-plain-short Nakshatra i = name-length 19 (plainNames Nakshatra) refl i
-plain-short Yoga i = name-length 19 (plainNames Yoga) refl i
-plain-short Karana i = name-length 19 (plainNames Karana) refl i
-plain-short Sign i = name-length 19 (plainNames Sign) refl i
-plain-short Month i = name-length 19 (plainNames Month) refl i
-plain-short Fortnight i = name-length 19 (plainNames Fortnight) refl i
-plain-short Weekday i = name-length 19 (plainNames Weekday) refl i

@@ -1,4 +1,5 @@
 pub mod Pieces
 pub mod Laws
+pub mod Columns
 pub mod Spelling
 pub mod Worked

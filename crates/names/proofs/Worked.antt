@@ -1,4 +1,5 @@
--- Worked names: what words are read as, and what numbers are named. Both sides compute, so that `refl` proves them.
+-- Worked names: what words are read as, what numbers are named, and what a table has of them. Both sides compute, so
+-- that `refl` proves them.
 -- Assumes nothing.
 use mathlib.Core.Path.{_≡_, refl}
 use mathlib.Core.List.{[], _∷_}
@@ -6,6 +7,7 @@ use Rattle.days.specs.Days.{theNumber, noNumber}
 use Rattle.text.specs.Ascii.{ascii}
 use Rattle.words.specs.Words.{behindMark, smallByte, smallFrom, sameBytes, placeIn, nameAt}
 use Rattle.names.specs.declared.Kind.the-variants.{Tithi, Nakshatra, Yoga, Karana, Sign, Month, Fortnight, Weekday}
+use Rattle.names.specs.Columns.{padded, aligned, paddedName, quotedName}
 use Rattle.names.specs.Names.{nameRead, nameOf}
 use Rattle.names.specs.Utf8.{utf8}
 
@@ -62,3 +64,26 @@ pub worked-names :
     ≡ ascii "purnima" ∷ ascii "amavasya" ∷ [] ∷ [] ∷ ascii "bava" ∷ ascii "kimstughna" ∷ ascii "monday" ∷ []
 unfolding nameOf nameAt
 worked-names = refl
+
+-- `krishna-chaturdashi` fills its column; a number without a name is blank, and empty quotes
+pub worked-columns :
+    paddedName Tithi 28
+    ∷ paddedName Tithi 14
+    ∷ paddedName Nakshatra 15
+    ∷ paddedName Karana 0
+    ∷ aligned 6 (ascii "33649")
+    ∷ aligned 6 (ascii "4294967295")
+    ∷ quotedName Weekday 0
+    ∷ quotedName Karana 12
+    ∷ []
+    ≡ ascii "krishna-chaturdashi"
+    ∷ ascii "purnima            "
+    ∷ ascii "vishakha         "
+    ∷ ascii "           "
+    ∷ ascii " 33649"
+    ∷ ascii "4294967295"
+    ∷ ascii "\"monday\""
+    ∷ ascii "\"\""
+    ∷ []
+unfolding nameOf nameAt padded aligned paddedName quotedName
+worked-columns = refl

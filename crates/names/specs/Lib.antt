@@ -1,3 +1,4 @@
 pub mod Utf8
 pub mod Tables
 pub mod Names
+pub mod Columns

@@ -1,5 +1,5 @@
 // The tithis, nakshatras, yogas, karanas, signs, lunar months, their halves and weekdays by name: the number of a name,
-// in two spellings and any letter case, and the name of a number.
+// in two spellings and any letter case, and the name of a number, as it is, in a column and in quotes.
 mod tables;
 
 use days::NumberAnswer;
@@ -27,6 +27,7 @@ ghost use mathlib.Core.Path.{_≡_};
 ghost use Rattle.text.specs.Lines.{withBytes};
 ghost use Rattle.words.specs.Words.{placeIn, nameAt};
 ghost use Rattle.names.specs.Names.{plainNames, otherNames, countOf, firstOf, nameRead, nameOf};
+ghost use Rattle.names.specs.Columns.{blanks, columnOf, paddedName, quotedName};
 
 // What a name is of.
 pub enum Kind {
@@ -38,6 +39,14 @@ pub enum Kind {
     Month,
     Fortnight,
     Weekday,
+}
+
+// How the elements of a day are printed: by their numbers, by their names in columns, or by both in a comma-separated
+// table.
+pub enum Print {
+    Numbers,
+    Names,
+    Csv,
 }
 
 // How many names a kind has.
@@ -143,4 +152,50 @@ pub fn put_name(line: Line, kind: Kind, number: u32) -> Line
         return line.text(b"");
     }
     put_place(line, kind, (number - first) as usize)
+}
+
+// The bytes of the longest plain name.
+fn column_of(kind: Kind) -> usize
+    ensures { λ r. ⌜ r ≡ columnOf kind ⌝ }
+{
+    match kind {
+        Kind::Tithi => 19,
+        Kind::Nakshatra => 17,
+        Kind::Yoga => 10,
+        Kind::Karana => 11,
+        Kind::Sign => 10,
+        Kind::Month => 12,
+        Kind::Fortnight => 7,
+        Kind::Weekday => 9,
+    }
+}
+
+// Blanks put behind a line, from one column to another.
+pub fn put_blanks(line: Line, from: usize, to: usize) -> Line
+    ensures { λ r. ⌜ r ≡ withBytes line (blanks from to) ⌝ }
+{
+    let mut made = line;
+    let mut at = from;
+    while at < to {
+        made = made.byte(b' ');
+        at += 1;
+    }
+    made
+}
+
+// The name of a number put behind a line, with blanks up to the end of its column.
+pub fn put_padded(line: Line, kind: Kind, number: u32) -> Line
+    ensures { λ r. ⌜ r ≡ withBytes line (paddedName kind number) ⌝ }
+{
+    let name = put_name(Line::empty(), kind, number);
+    let bytes = name.bytes;
+    let len = name.len;
+    put_blanks(line.text(&bytes[..len]), len, column_of(kind))
+}
+
+// The name of a number put behind a line in double quotes.
+pub fn put_quoted(line: Line, kind: Kind, number: u32) -> Line
+    ensures { λ r. ⌜ r ≡ withBytes line (quotedName kind number) ⌝ }
+{
+    put_name(line.byte(b'"'), kind, number).byte(b'"')
 }

@@ -21,16 +21,17 @@ use Rattle.query.specs.Conditions.{numbersInRange, askedInRange, weekdaysInRang
 use Rattle.query.specs.Query.{refusalOf}
 use Rattle.query.proofs.Conditions.{arcs-true, arcs-false, true-arcs-true, true-arcs-false}
 use Rattle.query.proofs.Accepted.{accepted-by}
-use Rattle.text.specs.Lines.{newline}
-use Rattle.values.specs.Values.{mostWeekdays, mostNumbers}
+use Rattle.names.specs.declared.Kind.the-variants.{Weekday}
+use Rattle.values.specs.Values.{mostOf}
 use Rattle.values.proofs.Refusals.{either, OfReading, number-refusal, day-refusal, set-of-refusal, none-refusal}
-use Rattle.words.specs.Words.{firstWord, afterWord, afterWords, pieces, placeIn}
-use Rattle.page.specs.Names.{keywords}
+use Rattle.words.specs.Words.{firstWord, afterWord, afterWords, placeIn}
+use Rattle.page.specs.Names.{keywords, printNames}
 use Rattle.page.specs.declared.Values.{Values}
+use Rattle.page.specs.declared.ArcRead.{ArcRead}
 use Rattle.page.specs.declared.LineRead.{LineRead}
 use Rattle.page.specs.declared.Fault.{Fault}
 use Rattle.page.specs.declared.Page.{Page}
-use Rattle.page.specs.Page.{spanKeyword, weekdayKeyword, tithiKeyword, nakshatraKeyword, yogaKeyword, editionKeyword, arcKeywords, karanaKeyword, trueKeywords, keywordCount, isElement, everyDay, withCondition, rankOf, ranksBefore, firstRefusal, firstValue, secondValue, numbersRead, arcRead, secondArcRead, arcsRead, mostValues, valuesRead, unknownWord, manyValues, malformedLine, blankLine, conditionRead, wordsRead, lineRead, firstFault, withFault, withLine, withLines, emptyPage, pageAnswer, pageRead}
+use Rattle.page.specs.Page.{spanKeyword, weekdayKeyword, tithiKeyword, nakshatraKeyword, yogaKeyword, editionKeyword, arcKeywords, karanaKeyword, trueKeywords, printKeyword, keywordCount, isElement, elementOf, hasArcs, everyDay, withCondition, printRead, withPrint, rankOf, ranksBefore, firstRefusal, firstValue, secondValue, numbersRead, arcsRead, arcsIn, mostValues, valuesRead, unknownWord, otherValues, malformedLine, blankLine, refusedAs, conditionRead, wordsRead, lineRead, firstFault, withFault, withLine, withLines, emptyPage, pageAnswer, linesOf, pageRead}
 
 -- a refusal that has a rank
 abbrev pub Ranked : ℕ → Type 0
@@ -65,25 +66,30 @@ numbers-ranked a b ka kb =
     either RankedValues (eqb (firstRefusal (a .refusal) (b .refusal)) 0) ranked-0
     (first-refusal-ranked (a .refusal) (b .refusal) (ranked-read _ ka) (ranked-read _ kb))
 
+print-refusal : (w : List ℕ) → OfReading (printRead w)
+unfolding printRead
+print-refusal w = either OfReading (ltb (placeIn printNames w) 2) (omega arith) (omega arith)
+
 first-value-read : (k : ℕ) (w : List ℕ) → OfReading (firstValue k w)
 unfolding firstValue
-first-value-read k w = either OfReading (eqb k spanKeyword) (day-refusal w) (number-refusal w)
+first-value-read k w =
+    either OfReading (eqb k spanKeyword) (day-refusal w) (either OfReading (eqb k printKeyword) (print-refusal w) (number-refusal w))
 
 second-value-read : (k : ℕ) (w : List ℕ) → OfReading (secondValue k w)
 unfolding secondValue
 second-value-read k w = either OfReading (eqb k spanKeyword) (day-refusal w) (none-refusal w)
 
+arcs-ranked : (a b : ArcRead) (left : List ℕ) → RankedValues (arcsRead a b left)
+unfolding arcsRead
+arcs-ranked a b left = either RankedValues (a .read && (b .read && eqb (length left) 0)) ranked-0 (ranked-all .2)
+
 values-ranked : (k : ℕ) (t : List ℕ) → RankedValues (valuesRead k t)
-unfolding valuesRead arcsRead
+unfolding valuesRead arcsIn
 values-ranked k t =
-    either RankedValues (eqb k weekdayKeyword) (numbers-ranked _ _ (set-of-refusal true mostWeekdays 0 t) (omega arith))
-    (either RankedValues (isElement k) (numbers-ranked _ _ (set-of-refusal false mostNumbers 0 t) (omega arith))
-    (either RankedValues (ltb k arcKeywords)
-    (numbers-ranked _ _ (first-value-read k (firstWord t)) (second-value-read k (firstWord (afterWord t))))
-    (either RankedValues
-    (arcRead (firstWord t) (firstWord (afterWord t)) .read && secondArcRead (firstWord (afterWords 2 t)) (firstWord (afterWords 3 t)) .read)
-    ranked-0
-    (ranked-all .2))))
+    either RankedValues (eqb k weekdayKeyword) (numbers-ranked _ _ (set-of-refusal Weekday (mostOf Weekday) 0 t) (omega arith))
+    (either RankedValues (isElement k) (numbers-ranked _ _ (set-of-refusal (elementOf k) (mostOf (elementOf k)) 0 t) (omega arith))
+    (either RankedValues (hasArcs k) (arcs-ranked _ _ _)
+    (numbers-ranked _ _ (first-value-read k (firstWord t)) (second-value-read k (firstWord (afterWord t))))))
 
 query-ranked : (q : Query) → Ranked (refusalOf q)
 unfolding refusalOf
@@ -106,13 +112,10 @@ malformed-sound : (why : ℕ) → SoundLine (malformedLine why)
 malformed-sound why = record { ranked = ranked-all .2; alone = λ r k. absurd (omega arith) }
 
 condition-sound : (k : ℕ) (v : Values) → RankedValues v → SoundLine (conditionRead k v)
-unfolding conditionRead
+unfolding conditionRead refusedAs
 condition-sound k v kv = either SoundLine (eqb (v .refusal) 3) (malformed-sound _) (go (eqb (v .refusal) 0) refl)
   where
-    go :
-        (t : Bool) →
-        eqb (v .refusal) 0 ≡ t →
-        SoundLine (record { refusal = cond t (refusalOf (withCondition everyDay k v)) (v .refusal); reason = 0; keyword = k; values = v })
+    go : (t : Bool) → eqb (v .refusal) 0 ≡ t → SoundLine (refusedAs k v (cond t (refusalOf (withCondition everyDay k v)) (v .refusal)))
     go true e = record { ranked = query-ranked _; alone = λ r _. r }
     go false e = record { ranked = kv; alone = λ r _. absurd (eqb-false _ _ e r) }
 
@@ -124,7 +127,7 @@ words-sound name behind =
     (either SoundLine (leb keywordCount k) (malformed-sound unknownWord)
     (either SoundLine (eqb (length (firstWord (afterWords (mostValues k) behind))) 0)
     (condition-sound k (valuesRead k behind) (values-ranked k behind))
-    (malformed-sound manyValues)))
+    (malformed-sound (otherValues k))))
 
 pub line-read-sound : (l : List ℕ) → SoundLine (lineRead l)
 unfolding lineRead
@@ -280,9 +283,12 @@ arcs-picked count true arcs i arc hi many pn po k h = go (eqb k i) refl
         rw (same, getD-set-same arcs i arc noArcs (omega (arith, hi refl))) this
     go false e = rw (getD-set-other arcs i k arc noArcs (eqb-false k i e)) (po k h)
 
--- the bodies' keywords
+-- the bodies' keywords, and the true places'
 of-body : (k : ℕ) → (leb arcKeywords k && ltb k karanaKeyword) ≡ true → k - arcKeywords < 9
 of-body k e = omega (arith, ltb-true k karanaKeyword (and-eq-true-iff (leb arcKeywords k) (ltb k karanaKeyword) .0 e .1))
+
+of-place : (k : ℕ) → (leb trueKeywords k && ltb k printKeyword) ≡ true → k - trueKeywords < 7
+of-place k e = omega (arith, ltb-true k printKeyword (and-eq-true-iff (leb trueKeywords k) (ltb k printKeyword) .0 e .1))
 
 abbrev asked : ℕ → Asked
 asked a = record { given = true; set = a }
@@ -290,14 +296,13 @@ asked a = record { given = true; set = a }
 -- conditions that are not refused alone are not refused together
 together :
     (q : Query) (k : ℕ) (v : Values) →
-    k < keywordCount →
     length (q .arcs) ≡ 9 →
     length (q .«true_arcs») ≡ 7 →
     Accepted q →
     Accepted (withCondition everyDay k v) →
     Accepted (withCondition q k v)
 unfolding withCondition
-together q k v hk nine seven g alone =
+together q k v nine seven g alone =
     record {
       edition = picked (λ (n : ℕ). isEdition n ≡ true) (eqb k editionKeyword) (v .first) firstEdition (q .edition) (alone .edition) (g .edition);
       order = span-picked (eqb k spanKeyword) (v .first) (v .second) (q .first) (q .last) (alone .order) (g .order);
@@ -308,7 +313,7 @@ together q k v hk nine seven g alone =
       yoga = picked (λ (x : Asked). askedInRange x 0 26 ≡ true) (eqb k yogaKeyword) (asked (v .first)) notAsked (q .yoga) (alone .yoga) (g .yoga);
       karana = picked (λ (x : Asked). askedInRange x 1 11 ≡ true) (eqb k karanaKeyword) (asked (v .first)) notAsked (q .karana) (alone .karana) (g .karana);
       arcs = arcs-picked 9 (leb arcKeywords k && ltb k karanaKeyword) (q .arcs) (k - arcKeywords) _ (of-body k) nine (alone .arcs) (g .arcs);
-      places = arcs-picked 7 (leb trueKeywords k) (q .«true_arcs») (k - trueKeywords) _ (λ _. omega arith) seven (alone .places) (g .places);
+      places = arcs-picked 7 (leb trueKeywords k && ltb k printKeyword) (q .«true_arcs») (k - trueKeywords) _ (of-place k) seven (alone .places) (g .places);
     }
 
 -- as many arcs as there were
@@ -322,7 +327,7 @@ nine-kept q k v = arcs-kept (leb arcKeywords k && ltb k karanaKeyword) (q .arcs)
 
 seven-kept : (q : Query) (k : ℕ) (v : Values) → length (withCondition q k v .«true_arcs») ≡ length (q .«true_arcs»)
 unfolding withCondition
-seven-kept q k v = arcs-kept (leb trueKeywords k) (q .«true_arcs») (k - trueKeywords) (v .arcs)
+seven-kept q k v = arcs-kept (leb trueKeywords k && ltb k printKeyword) (q .«true_arcs») (k - trueKeywords) (v .arcs)
 
 -- a page without a fault has a query that is not refused
 record SoundPage (p : Page) : Type 0 where
@@ -340,13 +345,13 @@ line-sound p n l s sound = go (leb keywordCount (l .keyword)) refl
     f : Fault
     f = record { refusal = l .refusal; reason = l .reason; line = n }
 
-    new : l .keyword < keywordCount → SoundPage (record { fault = firstFault (p .fault) f; present = set (p .present) (l .keyword) true; query = withCondition (p .query) (l .keyword) (l .values) })
+    new : l .keyword < keywordCount → SoundPage (record { fault = firstFault (p .fault) f; present = set (p .present) (l .keyword) true; query = withCondition (p .query) (l .keyword) (l .values); print = withPrint (p .print) (l .keyword) (l .values) })
     new h =
         record {
           nine = nine-kept (p .query) (l .keyword) (l .values) ∙ s .nine;
           seven = seven-kept (p .query) (l .keyword) (l .values) ∙ s .seven;
           accepted = λ r.
-              together (p .query) (l .keyword) (l .values) h (s .nine) (s .seven) (s .accepted (first-fault-former (p .fault) f r))
+              together (p .query) (l .keyword) (l .values) (s .nine) (s .seven) (s .accepted (first-fault-former (p .fault) f r))
               (accepted-parts _ (sound .alone (first-fault-latter (p .fault) f (sound .ranked) r) h));
         }
 
@@ -369,7 +374,7 @@ empty-sound = record { nine = refl; seven = refl; accepted = λ _. accepted-part
 
 pub accepted-page : (text : List ℕ) → pageRead text .refusal ≡ 0 → refusalOf (pageRead text .query) ≡ 0
 unfolding pageRead pageAnswer
-accepted-page text = go (withLines emptyPage 1 (pieces newline text)) (lines-sound emptyPage 1 (pieces newline text) empty-sound)
+accepted-page text = go (withLines emptyPage 1 (linesOf text)) (lines-sound emptyPage 1 (linesOf text) empty-sound)
   where
     go : (p : Page) → SoundPage p → pageAnswer p .refusal ≡ 0 → refusalOf (pageAnswer p .query) ≡ 0
     go p s = fault (eqb (p .fault .refusal) 0) refl

@@ -6,7 +6,7 @@ use borrow.Author.Tests.{eq-eqb, ne-eqb, le-leb, lt-leb}
 use lib.ListN.{length}
 use Rattle.words.specs.Words.{hash, upTo, firstWord, afterWord, afterWords, placeIn}
 use Rattle.page.specs.Names.{keywords}
-use Rattle.page.specs.Page.{keywordCount, mostValues, valuesRead, unknownWord, manyValues, malformedLine, blankLine, conditionRead, wordsRead, lineRead}
+use Rattle.page.specs.Page.{keywordCount, mostValues, valuesRead, unknownWord, otherValues, malformedLine, blankLine, conditionRead, wordsRead, lineRead}
 
 -- the first word, and the text behind it
 pub words-are : (l body name behind : List ℕ) → body ≡ upTo hash l → name ≡ firstWord body → behind ≡ afterWord body → wordsRead name behind ≡ lineRead l
@@ -24,7 +24,7 @@ module _ (name behind : List ℕ) where
     words-unknown h = rw (ne-eqb (length name) 0 some, ← ek, le-leb keywordCount k h)
 
     module _ (h : k < keywordCount) (more : List ℕ) (em : more ≡ firstWord (afterWords (mostValues k) behind)) where
-      pub words-many : (length more ≡ 0 → ⊥) → malformedLine manyValues ≡ wordsRead name behind
+      pub words-many : (length more ≡ 0 → ⊥) → malformedLine (otherValues k) ≡ wordsRead name behind
       unfolding wordsRead
       words-many some-more = rw (ne-eqb (length name) 0 some, ← ek, lt-leb keywordCount k h, ← em, ne-eqb (length more) 0 some-more)
 

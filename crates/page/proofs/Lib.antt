@@ -5,3 +5,4 @@ pub mod Once
 pub mod Single
 pub mod Worked
 pub mod LineNumbers
+pub mod Arcs

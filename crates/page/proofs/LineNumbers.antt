@@ -11,19 +11,20 @@ use lib.ListN.{length, getD}
 use Rattle.days.specs.Refusals.{accepted}
 use Rattle.text.specs.Lines.{newline}
 use Rattle.values.proofs.Refusals.{either}
-use Rattle.words.specs.Words.{pieces, isSeparator, inFront}
+use Rattle.words.specs.Words.{pieces, isSeparator, inFront, unmarked}
+use Rattle.words.proofs.Marks.{unmarked-shorter}
 use Rattle.page.specs.declared.LineRead.{LineRead}
 use Rattle.page.specs.declared.Fault.{Fault}
 use Rattle.page.specs.declared.Page.{Page}
 use Rattle.page.specs.declared.PageRead.{PageRead}
-use Rattle.page.specs.Page.{keywordCount, ranksBefore, firstFault, lineRead, withLine, withLines, emptyPage, pageAnswer, pageRead}
+use Rattle.page.specs.Page.{keywordCount, ranksBefore, firstFault, lineRead, withLine, withLines, emptyPage, pageAnswer, linesOf, pageRead}
 
 in-front-count : (b : ℕ) (ls : List (List ℕ)) → 1 ≤ length ls → length (inFront b ls) ≡ length ls
 unfolding inFront
 in-front-count b [] h = absurd (omega arith)
 in-front-count b (l ∷ ls) h = refl
 
-pub pieces-count : (text : List ℕ) → (1 ≤ length (pieces newline text)) × (length (pieces newline text) ≤ length text + 1)
+pieces-count : (text : List ℕ) → (1 ≤ length (pieces newline text)) × (length (pieces newline text) ≤ length text + 1)
 unfolding pieces
 pieces-count [] = (omega arith, omega arith)
 pieces-count (b ∷ bs) = go (isSeparator newline b) (pieces-count bs)
@@ -62,10 +63,14 @@ lines-within p n (l ∷ m ∷ ms) h =
     let deeper = lines-within (withLine p (suc n) (lineRead l)) (suc n) (m ∷ ms) (line-within p (suc n) (lineRead l) (omega arith)) in
     omega arith
 
+-- a byte order mark is on no line
+pub lines-count : (text : List ℕ) → length (linesOf text) ≤ length text + 1
+lines-count text = omega (arith, pieces-count (unmarked text) .1, unmarked-shorter text)
+
 pub line-number : (text : List ℕ) → pageRead text .line ≤ length text + 1
 unfolding pageRead pageAnswer
 line-number text =
-    let ls = pieces newline text in
+    let ls = linesOf text in
     let within = lines-within emptyPage 0 ls (omega arith) in
-    let few = pieces-count text .1 in
+    let few = lines-count text in
     either (λ (r : PageRead). r .line ≤ length text + 1) (eqb (withLines emptyPage 1 ls .fault .refusal) accepted) (omega arith) (omega arith)

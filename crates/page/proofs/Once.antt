@@ -9,15 +9,14 @@ use borrow.Author.Tests.{eqb-true, eqb-false, ne-eqb, leb-true, leb-false, lt-lt
 use lib.Dec.{eqb, leb, ltb}
 use lib.ListN.{length, getD, set, length-set}
 use Rattle.days.specs.Refusals.{badInput}
-use Rattle.text.specs.Lines.{newline}
 use Rattle.values.proofs.Refusals.{either}
-use Rattle.words.specs.Words.{hash, runLength, upTo, trimmed, firstWord, afterWord, afterWords, pieces, sameBytes, smallFrom, placeIn}
+use Rattle.words.specs.Words.{hash, runLength, upTo, trimmed, firstWord, afterWord, afterWords, sameBytes, smallFrom, placeIn}
 use Rattle.page.specs.Names.{keywords}
 use Rattle.page.specs.declared.Fault.{Fault}
 use Rattle.page.specs.declared.LineRead.{LineRead}
 use Rattle.page.specs.declared.Page.{Page}
 use Rattle.page.specs.declared.Values.{Values}
-use Rattle.page.specs.Page.{keywordCount, withCondition, ranksBefore, mostValues, valuesRead, unknownWord, manyValues, repeatedWord, notEnded, malformedLine, blankLine, conditionRead, wordsRead, lineRead, firstFault, withFault, withLine, withLines, emptyPage, pageAnswer, pageRead}
+use Rattle.page.specs.Page.{keywordCount, withCondition, withPrint, ranksBefore, mostValues, valuesRead, unknownWord, otherValues, repeatedWord, notEnded, malformedLine, blankLine, refusedAs, conditionRead, wordsRead, lineRead, firstFault, withFault, withLine, withLines, emptyPage, pageAnswer, linesOf, pageRead}
 use Rattle.page.proofs.Accepted.{Ranked, ranked-all, SoundLine, line-read-sound, first-fault-former, first-fault-latter}
 
 -- the keyword that a line begins with
@@ -54,7 +53,7 @@ abbrev KeywordOf : ℕ → LineRead → Type 0
 KeywordOf k l = l .refusal ≡ 0 → l .keyword ≡ k
 
 condition-keyword : (k : ℕ) (v : Values) → KeywordOf k (conditionRead k v)
-unfolding conditionRead
+unfolding conditionRead refusedAs
 condition-keyword k v = either (KeywordOf k) (eqb (v .refusal) badInput) (λ r. absurd (omega arith)) (λ _. refl)
 
 words-keyword : (name behind : List ℕ) → KeywordOf (placeIn keywords name) (wordsRead name behind)
@@ -64,7 +63,7 @@ words-keyword name behind = go (eqb (length name) 0) refl
     k : ℕ
     k = placeIn keywords name
 
-    go : (t : Bool) → eqb (length name) 0 ≡ t → KeywordOf k (cond t blankLine (cond (leb keywordCount k) (malformedLine unknownWord) (cond (eqb (length (firstWord (afterWords (mostValues k) behind))) 0) (conditionRead k (valuesRead k behind)) (malformedLine manyValues))))
+    go : (t : Bool) → eqb (length name) 0 ≡ t → KeywordOf k (cond t blankLine (cond (leb keywordCount k) (malformedLine unknownWord) (cond (eqb (length (firstWord (afterWords (mostValues k) behind))) 0) (conditionRead k (valuesRead k behind)) (malformedLine (otherValues k)))))
     go true e = λ _. sym (no-word name (eqb-true (length name) 0 e))
     go false e =
         either (KeywordOf k) (leb keywordCount k) (λ r. absurd (omega arith))
@@ -117,7 +116,7 @@ line-once p n l all sound = go (leb keywordCount (l .keyword)) refl
     Done after = after .fault .refusal ≡ 0 → (l .refusal ≡ 0) × Fewer (l .keyword) p after
 
     new : Page
-    new = record { fault = firstFault (p .fault) f; present = set (p .present) (l .keyword) true; query = withCondition (p .query) (l .keyword) (l .values) }
+    new = record { fault = firstFault (p .fault) f; present = set (p .present) (l .keyword) true; query = withCondition (p .query) (l .keyword) (l .values); print = withPrint (p .print) (l .keyword) (l .values) }
 
     known : (t : Bool) → getD (p .present) (l .keyword) false ≡ t → l .keyword < keywordCount → Done (cond t (withFault p (firstFault (record { refusal = badInput; reason = repeatedWord; line = n }) f)) new)
     known true e h = λ r. absurd (repeated-refused (p .fault) f n (sound .ranked) r)
@@ -153,12 +152,12 @@ lines-once p n (l ∷ m ∷ ms) all r =
     omega (arith, rest, step .fewer, ap ofKeyword same)
 
 -- AN ACCEPTED PAGE has at most so many lines with a keyword as there are keywords
-pub few-keywords : (text : List ℕ) → pageRead text .refusal ≡ 0 → keywordLines (pieces newline text) ≤ keywordCount
+pub few-keywords : (text : List ℕ) → pageRead text .refusal ≡ 0 → keywordLines (linesOf text) ≤ keywordCount
 unfolding pageRead pageAnswer absent
-few-keywords text r = lines-once emptyPage 1 (pieces newline text) refl (fault (eqb (page .fault .refusal) 0) refl r)
+few-keywords text r = lines-once emptyPage 1 (linesOf text) refl (fault (eqb (page .fault .refusal) 0) refl r)
   where
     page : Page
-    page = withLines emptyPage 1 (pieces newline text)
+    page = withLines emptyPage 1 (linesOf text)
 
     fault : (t : Bool) → eqb (page .fault .refusal) 0 ≡ t → pageAnswer page .refusal ≡ 0 → page .fault .refusal ≡ 0
     fault true e k = eqb-true (page .fault .refusal) 0 e

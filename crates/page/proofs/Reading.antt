@@ -9,12 +9,13 @@ use native.Mathlib.Numerals.{add-one}
 use borrow.Author.Tests.{ne-eqb}
 use lib.ListN.{length}
 use Rattle.text.specs.Lines.{newline}
-use Rattle.words.specs.Words.{runLength, upTo, afterFirst, pieces}
+use Rattle.words.specs.Words.{runLength, upTo, afterFirst, pieces, unmarked}
+use Rattle.words.proofs.Marks.{unmarked-shorter}
 use Rattle.words.proofs.Runs.{run-le}
 use Rattle.words.proofs.Pieces.{pieces-first, pieces-last, pieces-more, after-shorter}
 use Rattle.days.specs.Refusals.{badInput}
 use Rattle.page.specs.declared.Page.{Page}
-use Rattle.page.specs.Page.{notEnded, lineRead, withFault, withLine, withLines, emptyPage, pageAnswer, pageRead}
+use Rattle.page.specs.Page.{notEnded, lineRead, withFault, withLine, withLines, emptyPage, pageAnswer, linesOf, pageRead}
 
 lines-more :
     (p : Page) (n : ℕ) (l text : List ℕ) →
@@ -39,11 +40,11 @@ empty (b ∷ s) h = absurd (omega arith)
 
 -- before the line n: rest is what is left of the text
 pub record Reading (text : List ℕ) (p : Page) (n : ℕ) (rest : List ℕ) : Type 0 where
-  pub ahead : withLines p n (pieces newline rest) ≡ withLines emptyPage 1 (pieces newline text)
+  pub ahead : withLines p n (pieces newline rest) ≡ withLines emptyPage 1 (linesOf text)
   pub room : n + length rest ≤ length text + 1
 
-pub reading-start : (text : List ℕ) → Reading text emptyPage 1 text
-reading-start text = record { ahead = refl; room = omega arith }
+pub reading-start : (text : List ℕ) → Reading text emptyPage 1 (unmarked text)
+reading-start text = record { ahead = refl; room = omega (arith, unmarked-shorter text) }
 
 module _ (text : List ℕ) (p : Page) (n : ℕ) (rest : List ℕ) (r : Reading text p n rest) where
   pub reading-end : length rest ≡ 0 → pageAnswer p ≡ pageRead text

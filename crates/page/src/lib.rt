@@ -2,6 +2,10 @@
 use days::Day;
 use days::NumberAnswer;
 use days::refusal;
+use longitudes::CIRCLE;
+use names::Kind;
+use names::Print;
+use names::number_of;
 use panchanga::FIRST_EDITION;
 use query::Arc;
 use query::Asked;
@@ -13,9 +17,8 @@ use values::MOST_NUMBERS;
 use values::MOST_WEEKDAYS;
 use values::angle;
 use values::day;
+use values::named_set;
 use values::nothing;
-use values::number_set;
-use values::weekdays;
 use words::after;
 use words::after_word;
 use words::after_words;
@@ -24,28 +27,32 @@ use words::first_word;
 use words::place_in;
 use words::run_length;
 use words::true_place;
+use words::unmarked;
 use words::up_to;
+use zodiac::SIGN;
 ghost use mathlib.Core.Path.{_≡_};
-ghost use Prim.Native.Nat.{_<_};
+ghost use Prim.Native.Nat.{_<_, _≤_};
 ghost use Rattle.words.specs.Words.{placeIn};
 ghost use Rattle.page.specs.Names.{keywords};
-ghost use Rattle.page.specs.Page.{keywordCount, isElement, onlySpan, noValues, withCondition, rankOf, ranksBefore, firstRefusal, firstValue, secondValue, numbersRead, arcRead, secondArcRead, arcsRead, mostValues, valuesRead, malformedLine, conditionRead, lineRead, firstFault, withFault, withLine, emptyPage, pageAnswer, pageRead};
+ghost use Rattle.page.specs.Page.{keywordCount, isElement, elementOf, onlySpan, noValues, withCondition, rankOf, ranksBefore, firstRefusal, firstValue, secondValue, numbersRead, printOf, withPrint, printRead, hasArcs, arcRead, signArc, widthTo, toArc, isTo, namedArc, arcIn, arcWords, secondArcIn, arcsRead, arcsIn, mostValues, valuesRead, otherValues, malformedLine, refusedAs, conditionRead, lineRead, firstFault, withFault, withLine, emptyPage, pageAnswer, pageRead};
 
-// The words that a line begins with, behind them the names of the bodies, then `karana` and the names of the true
-// places; each is known by its place among them all.
+// The words that a line begins with, behind them the names of the bodies, then `karana`, the names of the true places
+// and `print`; each is known by its place among them all.
 const CONDITIONS: [u8; 41] = *b"span weekday tithi nakshatra yoga edition";
 
 const KARANA_NAME: [u8; 6] = *b"karana";
 
+const PRINT_NAME: [u8; 5] = *b"print";
+
 pub const SPAN: usize = 0;
 
-const WEEKDAY: usize = 1;
+pub const WEEKDAY: usize = 1;
 
-const TITHI: usize = 2;
+pub const TITHI: usize = 2;
 
-const NAKSHATRA: usize = 3;
+pub const NAKSHATRA: usize = 3;
 
-const YOGA: usize = 4;
+pub const YOGA: usize = 4;
 
 pub const EDITION: usize = 5;
 
@@ -57,13 +64,15 @@ pub const KARANA: usize = 15;
 // The true Sun's, and after it the other true places'.
 pub const TRUE_ARCS: usize = 16;
 
+// The one that is no condition: how the days are printed.
+pub const PRINT: usize = 23;
+
 // How many keywords there are.
-pub const KEYWORD_COUNT: usize = 23;
+pub const KEYWORD_COUNT: usize = 24;
 
-// Why a line is malformed.
+// Why a line is refused, beside the refusal's number; from OTHER_VALUES on, by the keyword's place, that its values are
+// not those that it takes.
 pub const UNKNOWN_WORD: u32 = 1;
-
-pub const MANY_VALUES: u32 = 2;
 
 pub const BAD_VALUE: u32 = 3;
 
@@ -71,13 +80,25 @@ pub const REPEATED_WORD: u32 = 4;
 
 pub const NOT_ENDED: u32 = 5;
 
-// A page that has been read: the refusal's number, or 0, why a line is malformed, the line at fault, counted from 1,
-// and the query. A refusal has a query of all zeros.
+pub const OTHER_VALUES: u32 = 6;
+
+// A tithi may be two words.
+const ELEMENT_WORDS: usize = 2 * MOST_NUMBERS;
+
+// What `print` takes.
+const PRINTS: [u8; 9] = *b"names csv";
+
+// The word between the start and the end of an arc.
+const TO: [u8; 2] = *b"to";
+
+// A page that has been read: the refusal's number, or 0, why a line is refused, the line at fault, counted from 1, the
+// query, and how its days are printed. A refusal has a query of all zeros, and numbers.
 pub struct PageRead {
     pub refusal: u32,
     pub reason: u32,
     pub line: usize,
     pub query: Query,
+    pub print: Print,
 }
 
 // The values of a line that have been read: two numbers, of which a set of weekdays or of numbers is the first, or a
@@ -94,6 +115,11 @@ struct ArcRead {
     read: bool,
     arc: Arc,
 }
+
+const NOT_READ: ArcRead = ArcRead {
+    read: false,
+    arc: Arc::NONE,
+};
 
 // A line that has been read: its keyword and its values. A line without a keyword has KEYWORD_COUNT.
 struct LineRead {
@@ -115,6 +141,7 @@ struct Page {
     fault: Fault,
     present: [bool; KEYWORD_COUNT],
     query: Query,
+    print: Print,
 }
 
 // The values of a line that has none.
@@ -200,11 +227,33 @@ fn with_condition(query: Query, keyword: usize, values: Values) -> Query
         query.arcs = arcs;
         return query;
     }
+    if PRINT <= keyword {
+        return query;
+    }
     let place = keyword - TRUE_ARCS;
     let mut true_arcs = query.true_arcs;
     true_arcs[place] = of_body;
     query.true_arcs = true_arcs;
     query
+}
+
+// What the place of a word among those that `print` takes means.
+fn print_of(place: u32) -> Print
+    ensures { λ r. ⌜ r ≡ printOf place ⌝ }
+{
+    if place == 0 {
+        return Print::Names;
+    }
+    Print::Csv
+}
+
+fn with_print(print: Print, keyword: usize, values: Values) -> Print
+    ensures { λ r. ⌜ r ≡ withPrint print keyword values ⌝ }
+{
+    if keyword == PRINT {
+        return print_of(values.first);
+    }
+    print
 }
 
 // The order of refusals: the lower comes first.
@@ -242,11 +291,25 @@ pub fn first_refusal(one: u32, other: u32) -> u32
     if ranks_before(other, one) { other } else { one }
 }
 
+// The place of a word among those that `print` takes.
+fn print_place(word: &[u8]) -> NumberAnswer
+    ensures { λ r. ⌜ r ≡ printRead (now (word .entry)) ⌝ }
+{
+    let place = place_in(&PRINTS, word);
+    if 2 <= place {
+        return NumberAnswer::refused(refusal::BAD_INPUT);
+    }
+    NumberAnswer::accepted(place as u32)
+}
+
 fn first_value(keyword: usize, word: &[u8]) -> NumberAnswer
     ensures { λ r. ⌜ r ≡ firstValue keyword (now (word .entry)) ⌝ }
 {
     if keyword == SPAN {
         return day(word);
+    }
+    if keyword == PRINT {
+        return print_place(word);
     }
     text::read_decimal(word)
 }
@@ -292,32 +355,134 @@ fn read_arc(start: &[u8], width: &[u8]) -> ArcRead
             };
         }
     }
+    NOT_READ
+}
+
+fn sign_arc(sign: u32) -> ArcRead
+    requires { ⌜ sign < 12 ⌝ }
+    ensures { λ r. ⌜ r ≡ signArc sign ⌝ }
+{
     ArcRead {
-        read: false,
-        arc: Arc::NONE,
+        read: true,
+        arc: Arc {
+            given: true,
+            start: SIGN * sign,
+            width: SIGN,
+        },
     }
 }
 
-// A line may have no second arc.
-fn read_second_arc(start: &[u8], width: &[u8]) -> ArcRead
-    ensures { λ r. ⌜ r ≡ secondArcRead (now (start .entry)) (now (width .entry)) ⌝ }
+// The width from a start to an end, which is not in the arc; 0 where there is none.
+pub fn width_to(start: u32, end: u32) -> u32
+    ensures { λ r. ⌜ r ≡ widthTo start end ⌝ }
 {
-    if start.len() == 0 {
+    if start <= end {
+        if end <= CIRCLE {
+            return end - start;
+        }
+        return 0;
+    }
+    if start < CIRCLE {
+        return end + CIRCLE - start;
+    }
+    0
+}
+
+fn to_arc(start: NumberAnswer, end: NumberAnswer) -> ArcRead
+    ensures { λ r. ⌜ r ≡ toArc start end ⌝ }
+{
+    if start.refusal != refusal::NONE {
+        return NOT_READ;
+    }
+    if end.refusal != refusal::NONE {
+        return NOT_READ;
+    }
+    let from = start.number;
+    let width = width_to(from, end.number);
+    ArcRead {
+        read: true,
+        arc: Arc {
+            given: true,
+            start: from,
+            width,
+        },
+    }
+}
+
+// Whether a word stands between the start and the end of an arc.
+pub fn is_to(word: &[u8]) -> bool
+    ensures { λ r. ⌜ r ≡ isTo (now (word .entry)) ⌝ }
+{
+    place_in(&TO, word) == 0
+}
+
+// A sign, or a start, `to` and an end, at the front of a text.
+fn named_arc(text: &[u8]) -> ArcRead
+    ensures { λ r. ⌜ r ≡ namedArc (now (text .entry)) ⌝ }
+{
+    let first = first_word(text);
+    let sign = number_of(Kind::Sign, first);
+    if sign.refusal == refusal::NONE {
+        return sign_arc(sign.number);
+    }
+    if is_to(first_word(after_word(text))) {
+        return to_arc(angle(first), angle(first_word(after_words(text, 2))));
+    }
+    NOT_READ
+}
+
+// The arc at the front of a text: a start and a width, or in other words.
+fn arc_in(text: &[u8]) -> ArcRead
+    ensures { λ r. ⌜ r ≡ arcIn (now (text .entry)) ⌝ }
+{
+    let two = read_arc(first_word(text), first_word(after_word(text)));
+    if two.read {
+        return two;
+    }
+    named_arc(text)
+}
+
+// How many words that arc is.
+pub fn arc_words(text: &[u8]) -> usize
+    ensures { λ r. ⌜ r ≡ arcWords (now (text .entry)) ⌝ }
+{
+    let first = first_word(text);
+    let two = read_arc(first, first_word(after_word(text)));
+    if two.read {
+        return 2;
+    }
+    let sign = number_of(Kind::Sign, first);
+    if sign.refusal == refusal::NONE {
+        return 1;
+    }
+    3
+}
+
+// A line may have no second arc.
+fn second_arc_in(text: &[u8]) -> ArcRead
+    ensures { λ r. ⌜ r ≡ secondArcIn (now (text .entry)) ⌝ }
+{
+    let word = first_word(text);
+    if word.len() == 0 {
         return ArcRead {
             read: true,
             arc: Arc::NONE,
         };
     }
-    read_arc(start, width)
+    arc_in(text)
 }
 
-fn both_arcs(first: ArcRead, second: ArcRead) -> Values
-    ensures { λ r. ⌜ r ≡ arcsRead first second ⌝ }
+// Both arcs, and the word behind them, which must be none.
+fn both_arcs(first: ArcRead, second: ArcRead, left: &[u8]) -> Values
+    ensures { λ r. ⌜ r ≡ arcsRead first second (now (left .entry)) ⌝ }
 {
     if !first.read {
         return Values::refused(refusal::BAD_INPUT);
     }
     if !second.read {
+        return Values::refused(refusal::BAD_INPUT);
+    }
+    if left.len() != 0 {
         return Values::refused(refusal::BAD_INPUT);
     }
     let one = first.arc;
@@ -333,6 +498,16 @@ fn both_arcs(first: ArcRead, second: ArcRead) -> Values
     }
 }
 
+fn read_arcs(text: &[u8]) -> Values
+    ensures { λ r. ⌜ r ≡ arcsIn (now (text .entry)) ⌝ }
+{
+    let first = arc_in(text);
+    let more = after_words(text, arc_words(text));
+    let second = second_arc_in(more);
+    let left = first_word(after_words(more, arc_words(more)));
+    both_arcs(first, second, left)
+}
+
 // Whether a keyword's values are a set of numbers.
 fn is_element(keyword: usize) -> bool
     ensures { λ r. ⌜ r ≡ isElement keyword ⌝ }
@@ -346,18 +521,47 @@ fn is_element(keyword: usize) -> bool
     keyword <= YOGA
 }
 
-// The most values that a line may have: those of a set, two, or two arcs of two angles each.
+// What an element's keyword has names of.
+fn element_of(keyword: usize) -> Kind
+    ensures { λ r. ⌜ r ≡ elementOf keyword ⌝ }
+{
+    if keyword == TITHI {
+        return Kind::Tithi;
+    }
+    if keyword == NAKSHATRA {
+        return Kind::Nakshatra;
+    }
+    if keyword == YOGA {
+        return Kind::Yoga;
+    }
+    Kind::Karana
+}
+
+// Whether a keyword's values are arcs: a body's, or a true place's.
+pub fn has_arcs(keyword: usize) -> bool
+    ensures { λ r. ⌜ r ≡ hasArcs keyword ⌝ }
+{
+    if keyword < ARCS {
+        return false;
+    }
+    if PRINT <= keyword {
+        return false;
+    }
+    keyword != KARANA
+}
+
+// The most words that a line may have behind its first: those of a set, two arcs of three, or two.
 fn most_values(keyword: usize) -> usize
     ensures { λ r. ⌜ r ≡ mostValues keyword ⌝ }
 {
     if keyword == WEEKDAY {
         MOST_WEEKDAYS
     } else if is_element(keyword) {
-        MOST_NUMBERS
-    } else if keyword < ARCS {
-        2
+        ELEMENT_WORDS
+    } else if has_arcs(keyword) {
+        6
     } else {
-        4
+        2
     }
 }
 
@@ -365,21 +569,28 @@ fn read_values(keyword: usize, text: &[u8]) -> Values
     ensures { λ r. ⌜ r ≡ valuesRead keyword (now (text .entry)) ⌝ }
 {
     if keyword == WEEKDAY {
-        return numbers(weekdays(text), NumberAnswer::accepted(0));
+        return numbers(named_set(Kind::Weekday, text), NumberAnswer::accepted(0));
     }
     if is_element(keyword) {
-        return numbers(number_set(text), NumberAnswer::accepted(0));
+        return numbers(
+            named_set(element_of(keyword), text),
+            NumberAnswer::accepted(0),
+        );
     }
-    let others = after_word(text);
+    if has_arcs(keyword) {
+        return read_arcs(text);
+    }
     let first = first_word(text);
-    let second = first_word(others);
-    if keyword < ARCS {
-        return numbers(first_value(keyword, first), second_value(keyword, second));
-    }
-    let more = after_word(others);
-    let one = read_arc(first, second);
-    let other = read_second_arc(first_word(more), first_word(after_word(more)));
-    both_arcs(one, other)
+    let second = first_word(after_word(text));
+    numbers(first_value(keyword, first), second_value(keyword, second))
+}
+
+// The reason of a line whose values are not those that its keyword takes.
+fn other_values(keyword: usize) -> u32
+    requires { ⌜ keyword < keywordCount ⌝ }
+    ensures { λ r. ⌜ r ≡ otherValues keyword ⌝ }
+{
+    OTHER_VALUES + keyword as u32
 }
 
 fn malformed(reason: u32) -> LineRead
@@ -393,30 +604,41 @@ fn malformed(reason: u32) -> LineRead
     }
 }
 
-fn condition(keyword: usize, values: Values) -> LineRead
+// A condition and a refusal of it, which has a reason where its values are out of range.
+fn refused_as(keyword: usize, values: Values, refused: u32) -> LineRead
     requires { ⌜ keyword < keywordCount ⌝ }
-    ensures { λ r. ⌜ r ≡ conditionRead keyword values ⌝ }
+    ensures { λ r. ⌜ r ≡ refusedAs keyword values refused ⌝ }
 {
-    if values.refusal == refusal::BAD_INPUT {
-        return malformed(BAD_VALUE);
-    }
-    if values.refusal != refusal::NONE {
+    if refused == refusal::BAD_CONDITION {
         return LineRead {
-            refusal: values.refusal,
-            reason: 0,
+            refusal: refused,
+            reason: other_values(keyword),
             keyword,
             values,
         };
     }
-    let every = only_span(FIRST_EDITION, 0, Day::LAST);
-    let alone = with_condition(every, keyword, values);
-    let refused = alone.refusal();
     LineRead {
         refusal: refused,
         reason: 0,
         keyword,
         values,
     }
+}
+
+fn condition(keyword: usize, values: Values) -> LineRead
+    requires { ⌜ keyword < keywordCount ⌝ }
+    ensures { λ r. ⌜ r ≡ conditionRead keyword values ⌝ }
+{
+    if values.refusal == refusal::BAD_INPUT {
+        return malformed(other_values(keyword));
+    }
+    if values.refusal != refusal::NONE {
+        return refused_as(keyword, values, values.refusal);
+    }
+    let every = only_span(FIRST_EDITION, 0, Day::LAST);
+    let alone = with_condition(every, keyword, values);
+    let refused = alone.refusal();
+    refused_as(keyword, values, refused)
 }
 
 // A word's place among the keywords; KEYWORD_COUNT for a word that is none.
@@ -435,7 +657,11 @@ pub fn keyword_of(word: &[u8]) -> usize
     if element == 0 {
         return KARANA;
     }
-    TRUE_ARCS + true_place(word)
+    let of_place = TRUE_ARCS + true_place(word);
+    if of_place < PRINT {
+        return of_place;
+    }
+    PRINT + place_in(&PRINT_NAME, word)
 }
 
 fn read_line(line: &[u8]) -> LineRead
@@ -458,7 +684,7 @@ fn read_line(line: &[u8]) -> LineRead
     let values = after_word(body);
     let more = first_word(after_words(values, most_values(keyword)));
     if more.len() != 0 {
-        return malformed(MANY_VALUES);
+        return malformed(other_values(keyword));
     }
     condition(keyword, read_values(keyword, values))
 }
@@ -505,10 +731,13 @@ fn with_line(page: Page, number: usize, line: LineRead) -> Page
     present[keyword] = true;
     let fault = first_fault(page.fault, fault);
     let query = with_condition(page.query, keyword, line.values);
+    let before = page.print;
+    let print = with_print(before, keyword, line.values);
     Page {
         fault,
         present,
         query,
+        print,
     }
 }
 
@@ -524,6 +753,7 @@ fn empty_page() -> Page
         },
         present: [false; KEYWORD_COUNT],
         query,
+        print: Print::Numbers,
     }
 }
 
@@ -533,11 +763,13 @@ fn page_answer(page: Page) -> PageRead
     let fault = page.fault;
     if fault.refusal == refusal::NONE {
         let query = page.query;
+        let print = page.print;
         return PageRead {
             refusal: refusal::NONE,
             reason: 0,
             line: 0,
             query,
+            print,
         };
     }
     let query = only_span(0, 0, 0);
@@ -546,6 +778,7 @@ fn page_answer(page: Page) -> PageRead
         reason: fault.reason,
         line: fault.line,
         query,
+        print: Print::Numbers,
     }
 }
 
@@ -555,7 +788,7 @@ pub fn read(text: &[u8]) -> PageRead
 {
     let mut page = empty_page();
     let mut number: usize = 1;
-    let mut rest = text;
+    let mut rest = unmarked(text);
     while 0 < rest.len() {
         if run_length(rest, b'\n', false) == rest.len() {
             return page_answer(with_fault(

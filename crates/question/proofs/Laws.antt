@@ -19,7 +19,7 @@ use Rattle.query.specs.Query.{refusalOf}
 use Rattle.text.specs.Lines.{newline}
 use Rattle.values.specs.Values.{dayRead}
 use Rattle.values.proofs.Refusals.{either}
-use Rattle.words.specs.Words.{hash, runLength, upTo, afterFirst, firstWord, afterWord}
+use Rattle.words.specs.Words.{hash, runLength, upTo, afterFirst, firstWord, afterWord, unmarked}
 use Rattle.question.specs.declared.FirstLine.{FirstLine}
 use Rattle.question.specs.declared.Question.{Question}
 use Rattle.question.specs.Questions.{dayInRange, dayLineRead, dayOrFault, firstLineRead, noQuestion, pageFault, askedBy, questionRead}
@@ -44,7 +44,7 @@ before-is-refused r t e z =
 record Both (first : FirstLine) (page : PageRead) : Type 0 where
   line : first .refusal ≡ 0
   rest : page .refusal ≡ 0
-  question : askedBy first page ≡ record { refusal = 0; reason = 0; line = 0; day = first .day; query = page .query }
+  question : askedBy first page ≡ record { refusal = 0; reason = 0; line = 0; day = first .day; query = page .query; print = page .print }
 
 both : (first : FirstLine) (page : PageRead) → askedBy first page .refusal ≡ 0 → Both first page
 unfolding askedBy
@@ -56,7 +56,7 @@ both first page r = go (eqb (first .refusal) 0) (eqb (page .refusal) 0) (ranksBe
         eqb (page .refusal) 0 ≡ b →
         ranksBefore (page .refusal) (first .refusal) ≡ c →
         cond a
-        (cond b (record { refusal = 0; reason = 0; line = 0; day = first .day; query = page .query }) (pageFault page))
+        (cond b (record { refusal = 0; reason = 0; line = 0; day = first .day; query = page .query; print = page .print }) (pageFault page))
         (cond c (pageFault page) (noQuestion (first .refusal) (first .reason) 1)) .refusal
         ≡ 0 →
         Both first page
@@ -100,13 +100,13 @@ pub record AcceptedText (text : List ℕ) : Type 0 where
 pub accepted-text : (text : List ℕ) → questionRead text .refusal ≡ 0 → AcceptedText text
 unfolding questionRead
 accepted-text text r =
-    let k = both (firstLineRead text) (pageRead (afterFirst newline text)) r in
-    record { day = rw (k .question) (first-day text (k .line)); query = rw (k .question) (accepted-page (afterFirst newline text) (k .rest)) }
+    let k = both (firstLineRead (unmarked text)) (pageRead (afterFirst newline text)) r in
+    record { day = rw (k .question) (first-day (unmarked text) (k .line)); query = rw (k .question) (accepted-page (afterFirst newline text) (k .rest)) }
 
 pub line-at-fault : (text : List ℕ) → questionRead text .line ≤ length text + 2
 unfolding questionRead askedBy
 line-at-fault text =
-    let first = firstLineRead text in
+    let first = firstLineRead (unmarked text) in
     let page = pageRead (afterFirst newline text) in
     let within = line-number (afterFirst newline text) in
     let shorter : length (afterFirst newline text) ≤ length text = unfold afterFirst in simp length-drop (omega arith) in

@@ -2,6 +2,7 @@
 use days::Day;
 use days::NumberAnswer;
 use days::refusal;
+use names::Print;
 use page::PageRead;
 use query::Asked;
 use query::BodyArcs;
@@ -12,19 +13,21 @@ use words::after;
 use words::after_word;
 use words::first_word;
 use words::run_length;
+use words::unmarked;
 use words::up_to;
 ghost use mathlib.Core.Path.{_≡_};
 ghost use Prim.Native.Nat.{_<_};
 ghost use Rattle.question.specs.Questions.{dayInRange, dayLineRead, dayOrFault, firstLineRead, noQuestion, askedBy, questionRead};
 
 // A text that has been read: the refusal's number, or 0, why a line is malformed, the line at fault, counted from 1, as
-// of a page; the day and the query. A refusal has a day and a query of all zeros.
+// of a page; the day, the query, and how it is printed. A refusal has a day and a query of all zeros, and numbers.
 pub struct Question {
     pub refusal: u32,
     pub reason: u32,
     pub line: usize,
     pub day: u32,
     pub query: Query,
+    pub print: Print,
 }
 
 // The first line that has been read.
@@ -108,6 +111,7 @@ fn refused(refusal: u32, reason: u32, line: usize) -> Question
             arcs: [BodyArcs::NONE; 9],
             true_arcs: [BodyArcs::NONE; TRUE_BODIES],
         },
+        print: Print::Numbers,
     }
 }
 
@@ -126,12 +130,14 @@ fn together(first: FirstLine, page: PageRead) -> Question
         return refused(page.refusal, page.reason, page.line + 1);
     }
     let query = page.query;
+    let print = page.print;
     Question {
         refusal: refusal::NONE,
         reason: 0,
         line: 0,
         day: first.day,
         query,
+        print,
     }
 }
 
@@ -139,7 +145,7 @@ fn together(first: FirstLine, page: PageRead) -> Question
 pub fn read(text: &[u8]) -> Question
     ensures { λ r. ⌜ r ≡ questionRead (now (text .entry)) ⌝ }
 {
-    let first = first_line(text);
+    let first = first_line(unmarked(text));
     let page = page::read(after(text, b'\n'));
     together(first, page)
 }

@@ -11,15 +11,16 @@ use Rattle.dated.proofs.Laws.{date-short, angle-digits, angle-short}
 use Rattle.days.specs.declared.NumberAnswer.{NumberAnswer}
 use Rattle.longitudes.specs.Longitudes.{circle}
 use Rattle.page.specs.Names.{keywords}
-use Rattle.page.specs.Page.{keywordCount}
+use Rattle.page.specs.Page.{keywordCount, widthTo, isTo}
 use Rattle.text.specs.Decimal.{numberRead}
 use Rattle.text.specs.Lines.{lineCapacity}
 use Rattle.text.proofs.Printing.{digits-length}
 use Rattle.values.specs.Values.{isRead, angleRead}
-use Rattle.words.specs.Words.{sameBytes, small, placeIn}
+use Rattle.values.proofs.Refusals.{either}
+use Rattle.words.specs.Words.{firstWord, afterWord, afterWords, sameBytes, small, placeIn}
 use Rattle.words.proofs.Letters.{name-as-long}
 use Rattle.words.proofs.Names.{noLonger}
-use Rattle.remarks.specs.Remarks.{lineText, arcText, secondsText, widthText, numbersText, daysText, likelyDegrees, likelyEnd, likelyYear, arcRemark, spanRemark}
+use Rattle.remarks.specs.Remarks.{lineText, arcText, secondsText, widthText, numbersText, daysText, likelyDegrees, likelyEnd, likelyYear, plainRemark, widthUpTo, endRemark, arcRemark, spanRemark}
 
 -- ---- what is likely
 pub degrees-true : (a b : NumberAnswer) → likelyDegrees a b ≡ true → (a .number < 360) × (b .number < 60)
@@ -79,9 +80,9 @@ module _ (n : ℕ) (few : n < 100000000000000000000) where
     width-fits start width s w =
         simp length-append (omega (arith, arc-short start width s w, angle-short ((start + width) % circle) (omega arith)))
 
-    pub arc-fits : (start width : List ℕ) → length (arcRemark n name start width) ≤ lineCapacity
-    unfolding arcRemark
-    arc-fits start width = degrees (likelyDegrees (numberRead start) (numberRead width)) refl
+    plain-fits : (start width : List ℕ) → length (plainRemark n name start width) ≤ lineCapacity
+    unfolding plainRemark
+    plain-fits start width = degrees (likelyDegrees (numberRead start) (numberRead width)) refl
       where
         ends :
             (t : Bool) →
@@ -99,6 +100,22 @@ module _ (n : ℕ) (few : n < 100000000000000000000) where
             ≤ lineCapacity
         degrees true e = let h = degrees-true (numberRead start) (numberRead width) e in seconds-fit _ _ (h .0) (h .1)
         degrees false e = ends _ refl
+
+    end-fits : (start end : List ℕ) → length (endRemark n name start end) ≤ lineCapacity
+    unfolding endRemark
+    end-fits start end = go (likelyDegrees (numberRead start) (widthUpTo (numberRead start) (numberRead end))) refl
+      where
+        go :
+            (t : Bool) →
+            likelyDegrees (numberRead start) (widthUpTo (numberRead start) (numberRead end)) ≡ t →
+            length (cond t (secondsText n name (numberRead start .number) (widthTo (numberRead start .number) (numberRead end .number))) []) ≤ lineCapacity
+        go true e = let h = degrees-true (numberRead start) (widthUpTo (numberRead start) (numberRead end)) e in seconds-fit _ _ (h .0) (h .1)
+        go false e = omega arith
+
+    pub arc-fits : (t : List ℕ) → length (arcRemark n name t) ≤ lineCapacity
+    unfolding arcRemark
+    arc-fits t =
+        either (λ (said : List ℕ). length said ≤ lineCapacity) (isTo (firstWord (afterWord t))) (end-fits (firstWord t) (firstWord (afterWords 2 t))) (plain-fits (firstWord t) (firstWord (afterWord t)))
 
   numbers-short : (first last : ℕ) → first ≤ 2619 → last ≤ 2619 → length (numbersText n first last) ≤ 44
   unfolding numbersText

@@ -7,36 +7,37 @@ use mathlib.Core.List.{List, [], _∷_, _++_}
 use native.Mathlib.Omega.{arith}
 use lib.Dec.{eqb, ltb}
 use lib.ListN.{length, length-append}
-use borrow.Author.Tests.{ltb-true, ltb-false, le-ltb, ne-eqb}
+use borrow.Author.Tests.{ltb-true, ltb-false, le-ltb, le-leb, ne-eqb}
 use Rattle.page.specs.Names.{keywords}
-use Rattle.page.specs.Page.{spanKeyword, keywordCount, pageRead}
-use Rattle.page.proofs.LineNumbers.{pieces-count}
+use Rattle.page.specs.Page.{spanKeyword, arcKeywords, printKeyword, keywordCount, hasArcs, arcWords, linesOf, pageRead}
+use Rattle.page.proofs.LineNumbers.{lines-count}
 use Rattle.page.proofs.Once.{lineKeyword, ofKeyword, keywordLines, few-keywords}
-use Rattle.text.specs.Lines.{newline, lineCapacity}
+use Rattle.text.specs.Lines.{lineCapacity}
 use Rattle.values.proofs.Refusals.{either}
-use Rattle.words.specs.Words.{hash, upTo, firstWord, afterWord, afterWords, pieces, placeIn}
-use Rattle.remarks.specs.Remarks.{arcRemark, hasArcs, firstRemark, secondRemark, lineRemarks, linesRemarks, someAsks, nothingAsked, lastRemark, pageRemarks, remarksRoom}
+use Rattle.words.specs.Words.{hash, upTo, firstWord, afterWord, afterWords, placeIn}
+use Rattle.remarks.specs.Remarks.{arcRemark, firstRemark, secondRemark, lineRemarks, linesRemarks, someAsks, nothingAsked, lastRemark, pageRemarks, remarksRoom}
 use Rattle.remarks.proofs.Fitting.{keyword-short, arc-fits, span-fits}
 
 -- nothing is said of a line without a keyword
 pub no-keyword : (n : ℕ) (name values : List ℕ) → keywordCount ≤ placeIn keywords name → firstRemark n name values ++ secondRemark n name values ≡ []
 unfolding firstRemark secondRemark hasArcs
-no-keyword n name values h = rw (ne-eqb (placeIn keywords name) spanKeyword (λ e. omega arith), le-ltb (placeIn keywords name) keywordCount h)
+no-keyword n name values h =
+    rw (ne-eqb (placeIn keywords name) spanKeyword (λ e. omega arith), le-leb arcKeywords (placeIn keywords name) (omega arith), le-ltb (placeIn keywords name) printKeyword (omega arith))
 
 module _ (n : ℕ) (few : n < 100000000000000000000) where
   module _ (name : List ℕ) (short : length name ≤ 12) where
-    or-arc : (t : Bool) (start width : List ℕ) → length (cond t (arcRemark n name start width) []) ≤ lineCapacity
-    or-arc true start width = arc-fits n few name short start width
-    or-arc false start width = omega arith
+    or-arc : (t : Bool) (text : List ℕ) → length (cond t (arcRemark n name text) []) ≤ lineCapacity
+    or-arc true text = arc-fits n few name short text
+    or-arc false text = omega arith
 
     first-short : (values : List ℕ) → length (firstRemark n name values) ≤ lineCapacity
     unfolding firstRemark
     first-short values =
-        either (λ (said : List ℕ). length said ≤ lineCapacity) (eqb (placeIn keywords name) spanKeyword) (span-fits n few (firstWord values) (firstWord (afterWord values))) (or-arc (hasArcs (placeIn keywords name)) (firstWord values) (firstWord (afterWord values)))
+        either (λ (said : List ℕ). length said ≤ lineCapacity) (eqb (placeIn keywords name) spanKeyword) (span-fits n few (firstWord values) (firstWord (afterWord values))) (or-arc (hasArcs (placeIn keywords name)) values)
 
     second-short : (values : List ℕ) → length (secondRemark n name values) ≤ lineCapacity
     unfolding secondRemark
-    second-short values = or-arc (hasArcs (placeIn keywords name)) (firstWord (afterWords 2 values)) (firstWord (afterWords 3 values))
+    second-short values = or-arc (hasArcs (placeIn keywords name)) (afterWords (arcWords values) values)
 
     words-short : (values : List ℕ) → length (firstRemark n name values ++ secondRemark n name values) ≤ 2 * lineCapacity
     words-short values = omega (arith, length-append (firstRemark n name values) (secondRemark n name values), first-short values, second-short values)
@@ -71,7 +72,7 @@ pub remarks-fit :
     (n : ℕ) (text : List ℕ) →
     pageRead text .refusal ≡ 0 →
     n + length text < 100000000000000000000 →
-    length (pageRemarks n (pieces newline text)) ≤ remarksRoom
+    length (pageRemarks n (linesOf text)) ≤ remarksRoom
 remarks-fit n text accepted few =
-    let lines = lines-room n (pieces newline text) (omega (arith, pieces-count text .1)) in
-    simp length-append (omega (arith, lines, few-keywords text accepted, last-short (someAsks (pieces newline text))))
+    let lines = lines-room n (linesOf text) (omega (arith, lines-count text)) in
+    simp length-append (omega (arith, lines, few-keywords text accepted, last-short (someAsks (linesOf text))))

@@ -10,13 +10,14 @@ use borrow.Author.Tests.{eqb-true, eq-eqb, ne-eqb, ltb-false}
 use lib.Dec.{eqb, ltb}
 use lib.ListN.{length, length-append, length-drop, drop-of-length-le}
 use Rattle.page.specs.declared.PageRead.{PageRead}
-use Rattle.page.specs.Page.{pageRead}
+use Rattle.page.specs.Page.{hasArcs, linesOf, pageRead}
 use Rattle.text.specs.Lines.{newline}
 use Rattle.text.specs.Sheets.{putAt}
 use Rattle.text.proofs.Sheets.{put-length}
-use Rattle.words.specs.Words.{runLength, upTo, trimmed, afterFirst, pieces, sameBytes, smallFrom, placeIn}
+use Rattle.words.specs.Words.{runLength, upTo, trimmed, afterFirst, pieces, sameBytes, smallFrom, unmarked, placeIn}
+use Rattle.words.proofs.Marks.{unmarked-shorter}
 use Rattle.words.proofs.Pieces.{laterPieces, pieces-first}
-use Rattle.remarks.specs.Remarks.{hasArcs, firstRemark, secondRemark, lineRemarks, linesRemarks, asks, someAsks, nothingAsked, lastRemark, pageRemarks, remarksOf, remarksRoom}
+use Rattle.remarks.specs.Remarks.{firstRemark, secondRemark, lineRemarks, linesRemarks, asks, someAsks, nothingAsked, lastRemark, pageRemarks, remarksOf, remarksRoom}
 use Rattle.remarks.proofs.Putting.{put-none, put-behind}
 use Rattle.remarks.proofs.Room.{remarks-fit}
 
@@ -94,7 +95,7 @@ pub accepted-read : (text : List ℕ) (read : PageRead) → read ≡ pageRead te
 accepted-read text read e h = sym (ap (λ (r : PageRead). r .refusal) e) ∙ h
 
 module _ (n : ℕ) (text : List ℕ) where
-  pub remarks-are : pageRead text .refusal ≡ 0 → remarksOf n text ≡ pageRemarks n (pieces newline text)
+  pub remarks-are : pageRead text .refusal ≡ 0 → remarksOf n text ≡ pageRemarks n (linesOf text)
   unfolding remarksOf
   remarks-are e = rw (eq-eqb (pageRead text .refusal) 0 e)
 
@@ -107,7 +108,7 @@ module _ (n : ℕ) (text : List ℕ) where
   unfolding remarksOf
   remarks-short few = go (eqb (pageRead text .refusal) 0) refl
     where
-      go : (t : Bool) → eqb (pageRead text .refusal) 0 ≡ t → length (cond t (pageRemarks n (pieces newline text)) []) ≤ remarksRoom
+      go : (t : Bool) → eqb (pageRead text .refusal) 0 ≡ t → length (cond t (pageRemarks n (linesOf text)) []) ≤ remarksRoom
       go true e = remarks-fit n text (eqb-true (pageRead text .refusal) 0 e) few
       go false e = omega arith
 
@@ -126,14 +127,14 @@ pub record Saying (first : ℕ) (text before : List ℕ) (number at : ℕ) (aske
   pub room : number + length rest ≤ first + length text
 
 module _ (first : ℕ) (text before : List ℕ) (accepted : pageRead text .refusal ≡ 0) where
-  pub saying-start : Saying first text before first 0 false text before
+  pub saying-start : Saying first text before first 0 false (unmarked text) before
   saying-start =
       record {
         done = [];
         whole = sym (remarks-are first text accepted);
         count = refl;
         put = sym (put-none before 0 refl);
-        room = omega arith;
+        room = omega (arith, unmarked-shorter text);
       }
 
   module _ (few : first + length text < 100000000000000000000) (size : length before ≡ remarksRoom) (number at : ℕ) (asked : Bool) (rest buffer : List ℕ) (s : Saying first text before number at asked rest buffer) where

@@ -11,12 +11,11 @@ use Rattle.days.specs.declared.NumberAnswer.{NumberAnswer}
 use Rattle.days.specs.Refusals.{accepted}
 use Rattle.longitudes.specs.Longitudes.{circle}
 use Rattle.page.specs.Names.{keywords}
-use Rattle.page.specs.Page.{spanKeyword, editionKeyword, arcKeywords, karanaKeyword, keywordCount, pageRead}
+use Rattle.page.specs.Page.{spanKeyword, editionKeyword, printKeyword, hasArcs, widthTo, isTo, arcWords, linesOf, pageRead}
 use Rattle.text.specs.Ascii.{ascii}
 use Rattle.text.specs.Decimal.{digitsOf, numberRead}
-use Rattle.text.specs.Lines.{newline}
 use Rattle.values.specs.Values.{isRead, angleRead}
-use Rattle.words.specs.Words.{hash, upTo, firstWord, afterWord, afterWords, pieces, placeIn}
+use Rattle.words.specs.Words.{hash, upTo, firstWord, afterWord, afterWords, placeIn}
 
 -- which line is meant
 unfoldable pub lineText : ℕ → List ℕ
@@ -62,31 +61,42 @@ likelyEnd start width = leb 36000 start && (ltb start circle && (ltb start width
 unfoldable pub likelyYear : ℕ → Bool
 likelyYear n = leb 1000 n && leb n 2619
 
--- what is said of an arc, by its two words; nothing where it is likely to be meant so
-unfoldable pub arcRemark : ℕ → List ℕ → List ℕ → List ℕ → List ℕ
-arcRemark n name start width =
+-- what is said of an arc by its start and width; nothing where it is likely to be meant so
+unfoldable pub plainRemark : ℕ → List ℕ → List ℕ → List ℕ → List ℕ
+plainRemark n name start width =
     cond (likelyDegrees (numberRead start) (numberRead width)) (secondsText n name (numberRead start .number) (numberRead width .number))
     (cond (likelyEnd (angleRead start .number) (angleRead width .number)) (widthText n name (angleRead start .number) (angleRead width .number)) [])
+
+-- the width of an arc by its end, which is refused where the end is
+abbrev pub widthUpTo : NumberAnswer → NumberAnswer → NumberAnswer
+widthUpTo start end = record { refusal = end .refusal; number = widthTo (start .number) (end .number) }
+
+-- of an arc by its start and end, whose second value is the end: bare numbers alone may be meant otherwise
+unfoldable pub endRemark : ℕ → List ℕ → List ℕ → List ℕ → List ℕ
+endRemark n name start end =
+    let width : NumberAnswer = widthUpTo (numberRead start) (numberRead end) in
+    cond (likelyDegrees (numberRead start) width) (secondsText n name (numberRead start .number) (width .number)) []
+
+-- of the arc at the front of a text; a sign's first word is no angle, so that nothing is said of it
+unfoldable pub arcRemark : ℕ → List ℕ → List ℕ → List ℕ
+arcRemark n name t =
+    cond (isTo (firstWord (afterWord t))) (endRemark n name (firstWord t) (firstWord (afterWords 2 t))) (plainRemark n name (firstWord t) (firstWord (afterWord t)))
 
 -- of a span
 unfoldable pub spanRemark : ℕ → List ℕ → List ℕ → List ℕ
 spanRemark n first last =
     cond (likelyYear (numberRead first .number) && likelyYear (numberRead last .number)) (daysText n (numberRead first .number) (numberRead last .number)) []
 
--- the keywords of arcs: the bodies', and behind the karana's those of the true places
-unfoldable pub hasArcs : ℕ → Bool
-hasArcs k = ltb k keywordCount && (leb arcKeywords k && not (eqb k karanaKeyword))
-
 -- of the nth line, by its first word and the text behind it: of its span or its first arc, and of its second
 unfoldable pub firstRemark : ℕ → List ℕ → List ℕ → List ℕ
 firstRemark n name values =
     let k : ℕ = placeIn keywords name in
     cond (eqb k spanKeyword) (spanRemark n (firstWord values) (firstWord (afterWord values)))
-    (cond (hasArcs k) (arcRemark n name (firstWord values) (firstWord (afterWord values))) [])
+    (cond (hasArcs k) (arcRemark n name values) [])
 
 unfoldable pub secondRemark : ℕ → List ℕ → List ℕ → List ℕ
 secondRemark n name values =
-    cond (hasArcs (placeIn keywords name)) (arcRemark n name (firstWord (afterWords 2 values)) (firstWord (afterWords 3 values))) []
+    cond (hasArcs (placeIn keywords name)) (arcRemark n name (afterWords (arcWords values) values)) []
 
 -- a `#` starts a comment
 unfoldable pub lineRemarks : ℕ → List ℕ → List ℕ
@@ -100,11 +110,11 @@ unfoldable pub linesRemarks : ℕ → List (List ℕ) → List ℕ
 linesRemarks n [] = []
 linesRemarks n (l ∷ ls) = lineRemarks n l ++ linesRemarks (suc n) ls
 
--- a line asks for something: it has a keyword, and not that of the span or the edition
+-- a line asks for something: it has a keyword, and not that of the span, the edition or the last, `print`
 unfoldable pub asks : List ℕ → Bool
 asks l =
     let k : ℕ = placeIn keywords (firstWord (upTo hash l)) in
-    ltb k keywordCount && (not (eqb k spanKeyword) && not (eqb k editionKeyword))
+    ltb k printKeyword && (not (eqb k spanKeyword) && not (eqb k editionKeyword))
 
 unfoldable pub someAsks : List (List ℕ) → Bool
 someAsks [] = false
@@ -123,7 +133,7 @@ pageRemarks n ls = linesRemarks n ls ++ lastRemark (someAsks ls)
 
 -- ALL THAT IS SAID of a text whose first line is the nth: nothing where it is refused
 unfoldable pub remarksOf : ℕ → List ℕ → List ℕ
-remarksOf n text = cond (eqb (pageRead text .refusal) accepted) (pageRemarks n (pieces newline text)) []
+remarksOf n text = cond (eqb (pageRead text .refusal) accepted) (pageRemarks n (linesOf text)) []
 
 -- the bytes that there is room for
 abbrev pub remarksRoom : ℕ

@@ -5,12 +5,16 @@ use dated::put_date;
 use days::NumberAnswer;
 use days::refusal;
 use longitudes::CIRCLE;
+use page::is_to;
+use page::width_to;
 use text::Line;
 use text::read_decimal;
 use values::angle;
 use words::after;
 use words::after_word;
+use words::after_words;
 use words::first_word;
+use words::unmarked;
 use words::up_to;
 ghost use mathlib.Core.Path.{_≡_};
 ghost use mathlib.Core.Bool.{_||_};
@@ -20,7 +24,7 @@ ghost use Rattle.longitudes.specs.Longitudes.{circle};
 ghost use Rattle.page.specs.Page.{pageRead};
 ghost use Rattle.text.specs.Lines.{emptyLine, contents, withBytes, Holds};
 ghost use Rattle.text.specs.Sheets.{putAt};
-ghost use Rattle.remarks.specs.Remarks.{lineText, arcText, secondsText, widthText, numbersText, daysText, likelyDegrees, likelyEnd, likelyYear, arcRemark, spanRemark, hasArcs, firstRemark, secondRemark, lineRemarks, asks, nothingAsked, remarksOf, remarksRoom};
+ghost use Rattle.remarks.specs.Remarks.{lineText, arcText, secondsText, widthText, numbersText, daysText, likelyDegrees, likelyEnd, likelyYear, plainRemark, widthUpTo, endRemark, arcRemark, spanRemark, firstRemark, secondRemark, lineRemarks, asks, nothingAsked, remarksOf, remarksRoom};
 
 // The bytes of a buffer into which all that is said of a page goes: each keyword stands on one line, of which there are
 // at most two lines to say.
@@ -129,9 +133,10 @@ fn likely_year(number: u32) -> bool
     number <= 2619
 }
 
-fn arc_remark(number: usize, name: &[u8], start: &[u8], width: &[u8]) -> Line
+// Of an arc by its start and width.
+fn plain_remark(number: usize, name: &[u8], start: &[u8], width: &[u8]) -> Line
     requires { ⌜ length (now name) ≤ 12 ⌝ }
-    ensures { λ r. ⌜ Holds r (arcRemark number (now (name .entry)) (now (start .entry)) (now (width .entry))) ⌝ }
+    ensures { λ r. ⌜ Holds r (plainRemark number (now (name .entry)) (now (start .entry)) (now (width .entry))) ⌝ }
 {
     let first = read_decimal(start);
     let second = read_decimal(width);
@@ -144,6 +149,44 @@ fn arc_remark(number: usize, name: &[u8], start: &[u8], width: &[u8]) -> Line
         return width_remark(number, name, from.number, wide.number);
     }
     Line::empty()
+}
+
+// The width of an arc by its end, which is refused where the end is.
+fn width_up_to(start: NumberAnswer, end: NumberAnswer) -> NumberAnswer
+    ensures { λ r. ⌜ r ≡ widthUpTo start end ⌝ }
+{
+    let number = width_to(start.number, end.number);
+    NumberAnswer {
+        refusal: end.refusal,
+        number,
+    }
+}
+
+// Of an arc by its start and end.
+fn end_remark(number: usize, name: &[u8], start: &[u8], end: &[u8]) -> Line
+    requires { ⌜ length (now name) ≤ 12 ⌝ }
+    ensures { λ r. ⌜ Holds r (endRemark number (now (name .entry)) (now (start .entry)) (now (end .entry))) ⌝ }
+{
+    let from = read_decimal(start);
+    let width = width_up_to(from, read_decimal(end));
+    if likely_degrees(from, width) {
+        return seconds_remark(number, name, from.number, width.number);
+    }
+    Line::empty()
+}
+
+// Of the arc at the front of a text.
+fn arc_remark(number: usize, name: &[u8], text: &[u8]) -> Line
+    requires { ⌜ length (now name) ≤ 12 ⌝ }
+    ensures { λ r. ⌜ Holds r (arcRemark number (now (name .entry)) (now (text .entry))) ⌝ }
+{
+    let start = first_word(text);
+    let second = first_word(after_word(text));
+    if is_to(second) {
+        let end = first_word(after_words(text, 2));
+        return end_remark(number, name, start, end);
+    }
+    plain_remark(number, name, start, second)
 }
 
 fn span_remark(number: usize, first: &[u8], last: &[u8]) -> Line
@@ -160,39 +203,23 @@ fn span_remark(number: usize, first: &[u8], last: &[u8]) -> Line
     days_remark(number, from.number, to.number)
 }
 
-// Whether a keyword's values are arcs: a body's, or a true place's.
-fn has_arcs(keyword: usize) -> bool
-    ensures { λ r. ⌜ r ≡ hasArcs keyword ⌝ }
-{
-    if page::KEYWORD_COUNT <= keyword {
-        return false;
-    }
-    if keyword < page::ARCS {
-        return false;
-    }
-    keyword != page::KARANA
-}
-
 fn of_words(number: usize, name: &[u8], values: &[u8]) -> Remarks
     ensures { λ r. ⌜ Holds (r .first) (firstRemark number (now (name .entry)) (now (values .entry))) × Holds (r .second) (secondRemark number (now (name .entry)) (now (values .entry))) ⌝ }
 {
     let keyword = page::keyword_of(name);
-    let start = first_word(values);
-    let others = after_word(values);
-    let width = first_word(others);
     if keyword == page::SPAN {
-        let first = span_remark(number, start, width);
+        let first = span_remark(number, first_word(values), first_word(after_word(values)));
         let second = Line::empty();
         return Remarks { first, second };
     }
-    if !has_arcs(keyword) {
+    if !page::has_arcs(keyword) {
         let first = Line::empty();
         let second = Line::empty();
         return Remarks { first, second };
     }
-    let more = after_word(others);
-    let first = arc_remark(number, name, start, width);
-    let second = arc_remark(number, name, first_word(more), first_word(after_word(more)));
+    let more = after_words(values, page::arc_words(values));
+    let first = arc_remark(number, name, values);
+    let second = arc_remark(number, name, more);
     Remarks { first, second }
 }
 
@@ -228,7 +255,7 @@ fn asked_with(asked: bool, line: &[u8]) -> bool
         return true;
     }
     let keyword = page::keyword_of(first_word(up_to(line, b'#')));
-    if page::KEYWORD_COUNT <= keyword {
+    if page::PRINT <= keyword {
         return false;
     }
     if keyword == page::SPAN {
@@ -251,7 +278,7 @@ fn put_all(text: &[u8], first: u32, buffer: &mut [u8]) -> usize
     let mut number = first as usize;
     let mut at: usize = 0;
     let mut asked = false;
-    let mut rest = text;
+    let mut rest = unmarked(text);
     while 0 < rest.len() {
         let line = up_to(rest, b'\n');
         at = put_line(number, line, buffer, at);

@@ -1,1 +1,1 @@
-mod Replying
+pub mod Replying

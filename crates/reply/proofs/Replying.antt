@@ -1,11 +1,11 @@
 -- The reply by what was read: accepted, refused, or not read at all; and what is said of the page. Assumes nothing.
 use mathlib.Core.List.{List, []}
-use mathlib.Core.Path.{_≡_, refl, sym}
-use Prim.Native.Nat.{ℕ, _≤_, _<_}
+use mathlib.Core.Path.{_≡_, refl, ap, sym, _∙_}
+use Prim.Native.Nat.{ℕ, _+_, _≤_, _<_}
 use native.Mathlib.Omega.{arith}
-use lib.ListN.{length}
+use lib.ListN.{length, take}
 use borrow.Author.Tests.{eq-eqb, ne-eqb, lt-ltb, le-ltb}
-use Rattle.explanation.specs.Explanations.{explanationOf}
+use Rattle.explanation.specs.Explanations.{explanationOf, explanationRoom}
 use Rattle.messages.specs.Messages.{faultLine, unreadablePage}
 use Rattle.question.specs.declared.Question.{Question}
 use Rattle.question.specs.Questions.{questionRead}
@@ -13,35 +13,48 @@ use Rattle.remarks.specs.Remarks.{remarksOf, remarksRoom}
 use Rattle.remarks.proofs.Putting.{put-none}
 use Rattle.text.specs.declared.Line.{Line}
 use Rattle.text.specs.Inputs.{tooLong}
-use Rattle.text.specs.Lines.{newline, emptyLine, withBytes, Holds, refusalLine}
+use Rattle.text.specs.Lines.{newline, emptyLine, Holds, refusalLine}
 use Rattle.text.specs.Sheets.{putAt}
-use Rattle.text.proofs.Holding.{holds}
+use Rattle.text.proofs.Holding.{nothing-held}
+use Rattle.text.proofs.Sheets.{put-front, put-length}
 use Rattle.words.specs.Words.{afterFirst}
 use Rattle.reply.specs.declared.Reply.{Reply}
 use Rattle.reply.specs.Replies.{printedOf, saidOf, printedFor, saidFor, Replied, remarksFor}
 
--- an empty line holds nothing
-nothing : (l : Line) → l ≡ emptyLine → Holds l []
-unfolding withBytes
-nothing l e = holds l [] (omega arith) e
+-- bytes put at the front of a buffer with room for what is printed, and how many they are
+abbrev pub Fronted : List ℕ → List ℕ → ℕ → List ℕ → Type 0
+Fronted printed before n after = (n ≡ length printed) × ((after ≡ putAt before 0 printed) × (n ≤ explanationRoom))
 
-module _ (q : Question) {printed said : Line} where
-  pub accepted-reply : q .refusal ≡ 0 → Holds printed (explanationOf (q .query) (q .day)) → said ≡ emptyLine → Replied (printedOf q) (saidOf q) (record { printed = printed; said = said })
+replied : (printed words before : List ℕ) (n : ℕ) (said : Line) (after : List ℕ) → Fronted printed before n after → Holds said words → Replied printed words before (record { printed = n; said = said }) after
+replied printed words before n said after f h = record { bytes = f .0; put = f .1 .0; room = f .1 .1; on-error = h }
+
+module _ (q : Question) (before : List ℕ) (n : ℕ) (said : Line) (after : List ℕ) where
+  pub accepted-reply : q .refusal ≡ 0 → Fronted (explanationOf (q .print) (q .query) (q .day)) before n after → said ≡ emptyLine → Replied (printedOf q) (saidOf q) before (record { printed = n; said = said }) after
   unfolding printedOf saidOf
-  accepted-reply r p s = rw (eq-eqb _ _ r) (record { on-output = p; on-error = nothing said s })
+  accepted-reply r p s = rw (eq-eqb _ _ r) (replied _ _ before n said after p (nothing-held said s))
 
-  pub refused-reply : (q .refusal ≡ 0 → ⊥) → Holds printed (refusalLine (q .refusal)) → Holds said (faultLine (q .line) (q .refusal) (q .reason)) → Replied (printedOf q) (saidOf q) (record { printed = printed; said = said })
+  pub refused-reply : (q .refusal ≡ 0 → ⊥) → Fronted (refusalLine (q .refusal)) before n after → Holds said (faultLine (q .line) (q .refusal) (q .reason)) → Replied (printedOf q) (saidOf q) before (record { printed = n; said = said }) after
   unfolding printedOf saidOf
-  refused-reply r p s = rw (ne-eqb _ _ r) (record { on-output = p; on-error = s })
+  refused-reply r p s = rw (ne-eqb _ _ r) (replied _ _ before n said after p s)
 
-module _ (input : List ℕ) where
-  pub unread-reply : {printed said : Line} → tooLong ≤ length input → Holds printed (refusalLine 3) → Holds said unreadablePage → Replied (printedFor input) (saidFor input) (record { printed = printed; said = said })
+module _ (input before : List ℕ) where
+  pub unread-reply : (n : ℕ) (said : Line) (after : List ℕ) → tooLong ≤ length input → Fronted (refusalLine 3) before n after → Holds said unreadablePage → Replied (printedFor input) (saidFor input) before (record { printed = n; said = said }) after
   unfolding printedFor saidFor
-  unread-reply h p s = rw (le-ltb (length input) tooLong h) (record { on-output = p; on-error = s })
+  unread-reply n said after h p s = rw (le-ltb (length input) tooLong h) (replied _ _ before n said after p s)
 
-  pub read-reply : {reply : Reply} {q : Question} → length input < tooLong → q ≡ questionRead input → Replied (printedOf q) (saidOf q) reply → Replied (printedFor input) (saidFor input) reply
+  pub read-reply : {reply : Reply} {q : Question} {after : List ℕ} → length input < tooLong → q ≡ questionRead input → Replied (printedOf q) (saidOf q) before reply after → Replied (printedFor input) (saidFor input) before reply after
   unfolding printedFor saidFor
   read-reply h e k = rw (lt-ltb (length input) tooLong h) (rw e at k)
+
+-- what is printed can be lent
+module _ (printed said before : List ℕ) (reply : Reply) (after : List ℕ) (r : Replied printed said before reply after) (size : length before ≡ explanationRoom) where
+  pub printed-fits : reply .printed ≤ length after
+  printed-fits = omega (arith, r .room, r .bytes, ap length (r .put) ∙ put-length before 0 printed (omega (arith, r .room, r .bytes)))
+
+  pub printed-front : take (reply .printed) after ≡ printed
+  printed-front =
+      let none : 0 + length printed ≡ length printed = omega arith in
+      rw (r .bytes, r .put) (rw none at (put-front before 0 printed (omega (arith, r .room, r .bytes))))
 
 -- what is said of how a page was understood, put at the front of a buffer
 abbrev pub Said : List ℕ → List ℕ → ℕ → List ℕ → Type 0

@@ -1,4 +1,4 @@
-// What the program `why` replies to its input: a day and a page in, a line out.
+// What the program `why` replies to its input: a day and a page in, a line out, put at the front of a lent buffer.
 use days::refusal;
 use question::Question;
 use text::Line;
@@ -10,38 +10,42 @@ ghost use Rattle.remarks.specs.Remarks.{remarksRoom};
 ghost use Rattle.text.specs.Sheets.{putAt};
 ghost use Rattle.reply.specs.Replies.{printedOf, saidOf, printedFor, saidFor, Replied, remarksFor};
 
-// The line for standard output, and the one for standard error, which is empty where nothing is at fault.
+// How many bytes for standard output stand at the front of the buffer, and the line for standard error, which is empty
+// where nothing is at fault.
 pub struct Reply {
-    pub printed: Line,
+    pub printed: usize,
     pub said: Line,
 }
 
-fn to_question(read: Question) -> Reply
+fn to_question(read: Question, buffer: &mut [u8; explanation::ROOM]) -> Reply
     requires { ⌜ read .line < 4294967296 ⌝ }
-    ensures { λ r. ⌜ Replied (printedOf read) (saidOf read) r ⌝ }
+    ensures { λ r. ⌜ Replied (printedOf read) (saidOf read) (now (buffer .entry)) r (now (buffer .exit)) ⌝ }
 {
     if read.refusal == refusal::NONE {
+        let print = read.print;
         let query = read.query;
-        let printed = explanation::line(query, read.day);
+        let printed = explanation::put_line(print, query, read.day, buffer);
         let said = Line::empty();
         return Reply { printed, said };
     }
-    let printed = text::refusal_line(read.refusal);
+    let refused = text::refusal_line(read.refusal);
+    let printed = explanation::put_front(refused, buffer);
     let line = read.line as u32;
     let said = messages::page_fault(line, read.refusal, read.reason);
     Reply { printed, said }
 }
 
 // The reply to an input.
-pub fn to_input(input: &[u8]) -> Reply
-    ensures { λ r. ⌜ Replied (printedFor (now (input .entry))) (saidFor (now (input .entry))) r ⌝ }
+pub fn to_input(input: &[u8], buffer: &mut [u8; explanation::ROOM]) -> Reply
+    ensures { λ r. ⌜ Replied (printedFor (now (input .entry))) (saidFor (now (input .entry))) (now (buffer .entry)) r (now (buffer .exit)) ⌝ }
 {
     if TOO_LONG <= input.len() {
-        let printed = text::refusal_line(refusal::BAD_INPUT);
+        let refused = text::refusal_line(refusal::BAD_INPUT);
+        let printed = explanation::put_front(refused, buffer);
         let said = messages::unreadable_page();
         return Reply { printed, said };
     }
-    to_question(question::read(input))
+    to_question(question::read(input), buffer)
 }
 
 // Puts what is said of how an accepted page was understood at the front of the buffer, and hands back how many bytes it

@@ -10,7 +10,7 @@ use Rattle.days.specs.Days.{daysFrom, spanRefusal, dayOf}
 use Rattle.entries.specs.Runs.{filtered}
 use Rattle.integers.specs.Integers.{floorOver, reduced}
 use Rattle.longitudes.specs.Longitudes.{table, meanLongitude, longitudeAt, differenceOf}
-use Rattle.page.specs.Page.{isElement, withCondition, rankOf, ranksBefore, firstRefusal, firstValue, secondValue, numbersRead, mostValues, valuesRead, conditionRead, wordsRead, lineRead}
+use Rattle.page.specs.Page.{isElement, hasArcs, withCondition, rankOf, ranksBefore, firstRefusal, firstValue, secondValue, numbersRead, mostValues, valuesRead, refusedAs, conditionRead, wordsRead, lineRead}
 use Rattle.panchanga.specs.TrueLongitudes.{bhuja, equation, signed, corrected, trueLongitude, isEdition}
 use Rattle.panchanga.specs.OnDays.{trueSunAt}
 use Rattle.query.specs.Conditions.{numbersInRange, weekdaysInRange, arcInRange, bodyArcsInRange, arcsInRange, trueArcsInRange, elementsInRange, conditionsInRange}
@@ -32,12 +32,12 @@ pub worked :
     ∷ signsPrinted (ascii "3990 4030 # a cycle turns\n")
     ∷ signsPrinted (ascii "11 40\n")
     ∷ signsPrinted (ascii "0 80 true\n")
-    ∷ signsPrinted (ascii "112420 112480\ttrue # a cycle turns\n")
+    ∷ signsPrinted (ascii "112420, 112480\tTRUE # a cycle turns\n")
     ∷ signsPrinted (ascii "9 5\n")
     ∷ signsPrinted (ascii "0 401600\n")
     ∷ signsPrinted (ascii "0 80")
     ∷ signsPrinted (ascii "9 5 true\n")
-    ∷ signsPrinted (ascii "0 80 True\n")
+    ∷ signsPrinted (ascii "0 80 tru\n")
     ∷ signsPrinted (ascii "0 80 true true\n")
     ∷ signsPrinted (ascii "0 true\n")
     ∷ []
@@ -54,5 +54,5 @@ pub worked :
     ∷ ascii "refused 3\n"
     ∷ ascii "refused 3\n"
     ∷ []
-unfolding isSeparator runLength upTo afterFirst trimmed afterWords inFront pieces sameBytes behindMark smallByte smallFrom placeIn nameAt isDigit allDigits withDigit valueOf isNumber numberRead digitsWithin digitsOf spaced refusalLine threeRead numberOr dateRead dayRead isEdition numbersInRange weekdaysInRange arcInRange bodyArcsInRange arcsInRange trueArcsInRange elementsInRange conditionsInRange spanRefusal dayOf refusalOf isElement withCondition rankOf ranksBefore firstRefusal firstValue secondValue numbersRead mostValues valuesRead conditionRead wordsRead lineRead bothDays spanLine isOneLine isMarked markedLine markedInput leap monthDays sameDate next dateOn dateOfDay dateBytes dayBytes namedDayBytes daysFrom filtered floorOver reduced table meanLongitude longitudeAt differenceOf bhuja equation signed corrected trueLongitude trueSunAt sunAt entersOn signEntries signHeading signLine signLines sunMeant joined
+unfolding isSeparator runLength upTo afterFirst trimmed afterWords inFront pieces sameBytes behindMark smallByte smallFrom placeIn nameAt isDigit allDigits withDigit valueOf isNumber numberRead digitsWithin digitsOf spaced refusalLine threeRead numberOr dateRead dayRead isEdition numbersInRange weekdaysInRange arcInRange bodyArcsInRange arcsInRange trueArcsInRange elementsInRange conditionsInRange spanRefusal dayOf refusalOf isElement hasArcs withCondition rankOf ranksBefore firstRefusal firstValue secondValue numbersRead mostValues valuesRead refusedAs conditionRead wordsRead lineRead bothDays spanLine isOneLine isMarked markedLine markedInput leap monthDays sameDate next dateOn dateOfDay dateBytes dayBytes namedDayBytes daysFrom filtered floorOver reduced table meanLongitude longitudeAt differenceOf bhuja equation signed corrected trueLongitude trueSunAt sunAt entersOn signEntries signHeading signLine signLines sunMeant joined
 worked = refl

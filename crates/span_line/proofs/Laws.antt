@@ -12,7 +12,7 @@ use borrow.Author.Tests.{eq-eqb, ne-eqb, eqb-true, eqb-false}
 use Rattle.days.specs.declared.NumberAnswer.{NumberAnswer}
 use Rattle.days.specs.Days.{spanRefusal}
 use Rattle.days.proofs.Laws.{Span as Ordered, span-accepted}
-use Rattle.page.specs.Page.{spanKeyword, isElement, withCondition, firstRefusal, firstValue, secondValue, numbersRead, mostValues, valuesRead, manyValues, malformedLine, conditionRead, wordsRead, lineRead}
+use Rattle.page.specs.Page.{spanKeyword, isElement, hasArcs, withCondition, firstRefusal, firstValue, secondValue, numbersRead, mostValues, valuesRead, otherValues, malformedLine, refusedAs, conditionRead, wordsRead, lineRead}
 use Rattle.panchanga.specs.TrueLongitudes.{isEdition}
 use Rattle.query.specs.Conditions.{numbersInRange, weekdaysInRange, arcInRange, bodyArcsInRange, arcsInRange, trueArcsInRange, elementsInRange, conditionsInRange}
 use Rattle.query.specs.Query.{refusalOf}
@@ -48,7 +48,7 @@ ofPage a b =
     cond (eqb (read .refusal) 0) (theSpan (read .values .first) (read .values .second)) (noSpan (read .refusal))
 
 page-days : (a b : NumberAnswer) → ofPage a b ≡ bothDays a b
-unfolding conditionRead numbersRead bothDays withCondition refusalOf spanRefusal isEdition conditionsInRange numbersInRange weekdaysInRange arcInRange bodyArcsInRange arcsInRange trueArcsInRange elementsInRange
+unfolding conditionRead refusedAs numbersRead bothDays withCondition refusalOf spanRefusal isEdition conditionsInRange numbersInRange weekdaysInRange arcInRange bodyArcsInRange arcsInRange trueArcsInRange elementsInRange
 page-days a b = go (firstRefusal (a .refusal) (b .refusal)) refl
   where
     go : (r : ℕ) → firstRefusal (a .refusal) (b .refusal) ≡ r → ofPage a b ≡ bothDays a b
@@ -63,12 +63,12 @@ page-days a b = go (firstRefusal (a .refusal) (b .refusal)) refl
 words-are :
     (l : List ℕ) →
     lineRead (ascii "span " ++ l)
-    ≡ cond (eqb (length (firstWord (afterWord (afterWord (upTo hash l))))) 0) (conditionRead spanKeyword (valuesRead spanKeyword (upTo hash l))) (malformedLine manyValues)
-unfolding lineRead wordsRead isElement mostValues isSeparator runLength upTo afterFirst trimmed afterWords sameBytes behindMark smallByte smallFrom placeIn
+    ≡ cond (eqb (length (firstWord (afterWord (afterWord (upTo hash l))))) 0) (conditionRead spanKeyword (valuesRead spanKeyword (upTo hash l))) (malformedLine (otherValues spanKeyword))
+unfolding lineRead wordsRead isElement hasArcs mostValues isSeparator runLength upTo afterFirst trimmed afterWords sameBytes behindMark smallByte smallFrom placeIn
 words-are l = refl
 
 values-are : (t : List ℕ) → valuesRead spanKeyword t ≡ numbersRead (dayRead (firstWord t)) (dayRead (firstWord (afterWord t)))
-unfolding isElement valuesRead firstValue secondValue
+unfolding isElement hasArcs valuesRead firstValue secondValue
 values-are t = refl
 
 three-are : (l : List ℕ) → eqb (length (firstWord (afterWord (afterWord (upTo hash l))))) 0 ≡ false → spanLine l ≡ noSpan 3

@@ -1,4 +1,4 @@
--- Laws of the values' meanings, one for each case that the code meets; the set of a line, word by word; and a line of
+-- Laws of the values' meanings, one for each case that the code meets; the set of a line, value by value; and a line of
 -- one number is the set of that number. Assumes nothing.
 use mathlib.Core.Bool.{Bool, true, false, cond, false≢true, and-false}
 use mathlib.Core.Path.{_≡_, refl, ap, sym, _∙_}
@@ -17,9 +17,12 @@ use Rattle.days.specs.Weekdays.{inSet}
 use Rattle.days.proofs.Weekdays.{bit-most}
 use Rattle.query.specs.Conditions.{numberBit, hasNumber, withNumber}
 use Rattle.text.specs.Decimal.{isNumber, numberRead}
-use Rattle.words.specs.Words.{upTo, afterFirst, firstWord, afterWord, placeIn}
-use Rattle.words.specs.Names.{weekdayNames}
-use Rattle.values.specs.Values.{isRead, threeNumbers, threeRead, numberOr, mostWeekdays, weekdayRead, withWeekday, inNumbers, withNumberRead, withWord, setRead, setOf, numberSetRead}
+use Rattle.names.specs.declared.Kind.{Kind}
+use Rattle.names.specs.declared.Kind.the-variants.{Fortnight}
+use Rattle.names.proofs.Laws.{number-few}
+use Rattle.words.specs.Words.{upTo, afterFirst, firstWord, afterWord, afterWords}
+use Rattle.values.specs.declared.Value.{Value}
+use Rattle.values.specs.Values.{isRead, threeNumbers, threeRead, twoRead, numberOr, isTithi, halfNamed, mostWeekdays, isWeekday, valueRead, withWeekday, inNumbers, withNumberRead, withValue, setRead, setOf, namedSetRead}
 use Rattle.values.proofs.Refusals.{either}
 
 pub is-number : (w : List ℕ) (other a : NumberAnswer) → a ≡ numberRead w → a .refusal ≡ 0 → a ≡ numberOr w other
@@ -48,42 +51,52 @@ pub three-are :
 unfolding threeRead
 three-are s w rest x y z a b d er ex ea ey eb ez ed = rw (ea, eb, ed, ex, ey, ez, er)
 
+-- the two numbers of a word
+pub two-are :
+    (s : ℕ) (w x y : List ℕ) (a b : NumberAnswer) →
+    x ≡ upTo s w →
+    a ≡ numberRead x →
+    y ≡ afterFirst s w →
+    b ≡ numberRead y →
+    threeNumbers a b (theNumber 0) ≡ twoRead s w
+unfolding twoRead
+two-are s w x y a b ex ea ey eb = rw (ea, eb, ex, ey)
+
+-- the number of a half of the month is 0 or 1
+pub half-few : (k : Kind) (w : List ℕ) → halfNamed k w .number ≤ 1
+unfolding halfNamed
+half-few k w = either (λ (a : NumberAnswer). a .number ≤ 1) (isTithi k) (omega (arith, number-few Fortnight w)) (omega arith)
+
+-- the value that was read is the one that is put into the set
+pub with-the-value : (k : Kind) (set : ℕ) (t : List ℕ) (v : Value) (found : NumberAnswer) → v ≡ valueRead k t → found ≡ withValue k set (v .read) → found ≡ withValue k set (valueRead k t .read)
+with-the-value k set t v found e f = f ∙ ap (λ (x : Value). withValue k set (x .read)) e
+
 -- a weekday adds its bit at most
-added : (weekdays : Bool) (set : ℕ) (w : List ℕ) (found : NumberAnswer) → found ≡ withWord weekdays set w → weekdays ≡ true → found .number ≤ set + 128
-unfolding withWord withWeekday
-added false set w found e is = absurd (false≢true is)
-added true set w found e is =
-    let read = weekdayRead w in
-    rw e
-    (either (λ (a : NumberAnswer). a .number ≤ set + 128) (isRead read)
-    (either (λ (a : NumberAnswer). a .number ≤ set + 128) (inSet set (read .number)) (omega arith) (omega (arith, bit-most (read .number))))
+added : (k : Kind) (set : ℕ) (n found : NumberAnswer) → found ≡ withValue k set n → isWeekday k ≡ true → found .number ≤ set + 128
+unfolding withValue withWeekday
+added k set n found e is =
+    rw (e, is)
+    (either (λ (a : NumberAnswer). a .number ≤ set + 128) (isRead n)
+    (either (λ (a : NumberAnswer). a .number ≤ set + 128) (inSet set (n .number)) (omega arith) (omega (arith, bit-most (n .number))))
     (omega arith))
 
-pub is-weekday : (w : List ℕ) (n : ℕ) → n ≡ placeIn weekdayNames w → n < 7 → theNumber n ≡ weekdayRead w
-unfolding weekdayRead
-is-weekday w n e h = let name = lt-ltb n 7 h in rw (ap (λ k. ltb k 7) (sym e) ∙ name) (ap theNumber e)
+-- the set of a line: the text of the values left goes on to the set that is due
+pub record Reading (k : Kind) (most : ℕ) (text : List ℕ) (set left : ℕ) (rest : List ℕ) : Type 0 where
+  pub ahead : setOf k left set rest ≡ setOf k most 0 text
+  pub small : isWeekday k ≡ true → set + 128 * left ≤ 896
 
-pub no-weekday : (w : List ℕ) (n : ℕ) → n ≡ placeIn weekdayNames w → 7 ≤ n → numberRead w ≡ weekdayRead w
-unfolding weekdayRead
-no-weekday w n e h = let other = le-ltb n 7 h in rw (ap (λ k. ltb k 7) (sym e) ∙ other)
+pub reading-start : (k : Kind) (most : ℕ) (text : List ℕ) → (isWeekday k ≡ true → most ≤ mostWeekdays) → Reading k most text 0 most text
+reading-start k most text few = record { ahead = refl; small = λ is. omega (arith, few is) }
 
--- the set of a line: the text of the words left goes on to the set that is due
-pub record Reading (weekdays : Bool) (most : ℕ) (text : List ℕ) (set left : ℕ) (rest : List ℕ) : Type 0 where
-  pub ahead : setOf weekdays left set rest ≡ setOf weekdays most 0 text
-  pub small : weekdays ≡ true → set + 128 * left ≤ 896
-
-pub reading-start : (weekdays : Bool) (most : ℕ) (text : List ℕ) → (weekdays ≡ true → most ≤ mostWeekdays) → Reading weekdays most text 0 most text
-reading-start weekdays most text few = record { ahead = refl; small = λ is. omega (arith, few is) }
-
-module _ (weekdays : Bool) (most : ℕ) (text : List ℕ) (set left : ℕ) (rest : List ℕ) (r : Reading weekdays most text set left rest) where
+module _ (k : Kind) (most : ℕ) (text : List ℕ) (set left : ℕ) (rest : List ℕ) (r : Reading k most text set left rest) where
   abbrev due : NumberAnswer
-  due = setOf weekdays most 0 text
+  due = setOf k most 0 text
 
   pub reading-end : length (firstWord rest) ≡ 0 → setRead set ≡ due
   unfolding setOf
   reading-end e = go left (r .ahead)
     where
-      go : (n : ℕ) → setOf weekdays n set rest ≡ due → setRead set ≡ due
+      go : (n : ℕ) → setOf k n set rest ≡ due → setRead set ≡ due
       go zero a = rw (eq-eqb (length (firstWord rest)) 0 e) at a
       go (suc n) a = rw (eq-eqb (length (firstWord rest)) 0 e) at a
 
@@ -91,30 +104,38 @@ module _ (weekdays : Bool) (most : ℕ) (text : List ℕ) (set left : ℕ) (rest
   unfolding setOf
   reading-many f z = go left z (r .ahead)
     where
-      go : (n : ℕ) → n ≡ 0 → setOf weekdays n set rest ≡ due → noNumber badInput ≡ due
+      go : (n : ℕ) → n ≡ 0 → setOf k n set rest ≡ due → noNumber badInput ≡ due
       go zero z a = rw (ne-eqb (length (firstWord rest)) 0 f) at a
       go (suc n) z a = absurd (omega arith)
 
-  module _ (f : length (firstWord rest) ≡ 0 → ⊥) (some : left ≡ 0 → ⊥) (found : NumberAnswer) (w : found ≡ withWord weekdays set (firstWord rest)) where
-    step : cond (isRead found) (setOf weekdays (left - 1) (found .number) (afterWord rest)) found ≡ due
-    unfolding setOf
-    step = go left some (r .ahead)
-      where
-        go : (n : ℕ) → (n ≡ 0 → ⊥) → setOf weekdays n set rest ≡ due → cond (isRead found) (setOf weekdays (n - 1) (found .number) (afterWord rest)) found ≡ due
-        go zero s a = absurd (s refl)
-        go (suc n) s a =
-            let less : suc n - 1 ≡ n = omega arith in
-            rw (less, w) (rw (ne-eqb (length (firstWord rest)) 0 f) at a)
+  module _
+      (f : length (firstWord rest) ≡ 0 → ⊥)
+      (some : left ≡ 0 → ⊥)
+      (found : NumberAnswer)
+      (w : found ≡ withValue k set (valueRead k rest .read))
+    where
+      abbrev others : List ℕ
+      others = afterWords (valueRead k rest .words) rest
 
-    pub reading-refused : (found .refusal ≡ 0 → ⊥) → found ≡ due
-    reading-refused n = rw (ne-eqb (found .refusal) 0 n) at step
+      step : cond (isRead found) (setOf k (left - 1) (found .number) others) found ≡ due
+      unfolding setOf
+      step = go left some (r .ahead)
+        where
+          go : (n : ℕ) → (n ≡ 0 → ⊥) → setOf k n set rest ≡ due → cond (isRead found) (setOf k (n - 1) (found .number) others) found ≡ due
+          go zero s a = absurd (s refl)
+          go (suc n) s a =
+              let less : suc n - 1 ≡ n = omega arith in
+              rw (less, w) (rw (ne-eqb (length (firstWord rest)) 0 f) at a)
 
-    pub reading-next : found .refusal ≡ 0 → Reading weekdays most text (found .number) (left - 1) (afterWord rest)
-    reading-next e =
-        record {
-          ahead = rw (eq-eqb (found .refusal) 0 e) at step;
-          small = λ is. omega (arith, r .small is, added weekdays set (firstWord rest) found w is);
-        }
+      pub reading-refused : (found .refusal ≡ 0 → ⊥) → found ≡ due
+      reading-refused n = rw (ne-eqb (found .refusal) 0 n) at step
+
+      pub reading-next : found .refusal ≡ 0 → Reading k most text (found .number) (left - 1) others
+      reading-next e =
+          record {
+            ahead = rw (eq-eqb (found .refusal) 0 e) at step;
+            small = λ is. omega (arith, r .small is, added k set (valueRead k rest .read) found w is);
+          }
 
 -- the set of a line's only number: that number's bit
 abbrev pub onlyNumber : NumberAnswer → NumberAnswer
@@ -134,23 +155,43 @@ set-of-bit : (n : ℕ) → setRead (numberBit n) ≡ theNumber (numberBit n)
 unfolding setRead
 set-of-bit n = rw (ne-eqb (numberBit n) 0 (λ z. omega (arith, pow-pos (min n 31))))
 
-empty-word : (w : List ℕ) → length w ≡ 0 → onlyNumber (numberRead w) ≡ noNumber badInput
+number-some : (w : List ℕ) → numberRead w .refusal ≡ 0 → length w ≡ 0 → ⊥
 unfolding numberRead isNumber
-empty-word [] h = refl
-empty-word (b ∷ w) h = absurd (omega arith)
+number-some [] good none = omega arith
+number-some (b ∷ w) good none = omega arith
 
--- a line of one word means the set of its number
-pub one-word : (t : List ℕ) → length (firstWord (afterWord t)) ≡ 0 → numberSetRead t ≡ onlyNumber (numberRead (firstWord t))
-unfolding setOf withWord setRead
-one-word t last = go (eqb (length (firstWord t)) 0) refl
-  where
-    a : NumberAnswer
-    a = numberRead (firstWord t)
+-- a word that is a number is that number, whatever it is asked for
+value-number : (k : Kind) (t : List ℕ) → numberRead (firstWord t) .refusal ≡ 0 → valueRead k t ≡ record { words = 1; read = numberRead (firstWord t) }
+unfolding valueRead
+value-number k t good = rw (eq-eqb (numberRead (firstWord t) .refusal) 0 good)
 
-    read : (r : Bool) → isRead a ≡ r → cond (isRead (onlyNumber a)) (setOf false 29 (onlyNumber a .number) (afterWord t)) (onlyNumber a) ≡ onlyNumber a
-    read true e = rw (e, eq-eqb (length (firstWord (afterWord t))) 0 last) (set-of-bit (a .number))
-    read false e = rw e
+with-only : (k : Kind) (a : NumberAnswer) → isWeekday k ≡ false → a .refusal ≡ 0 → withValue k 0 a ≡ theNumber (numberBit (a .number))
+unfolding withValue
+with-only k a e good = rw (e, first-number a, eq-eqb (a .refusal) 0 good)
 
-    go : (u : Bool) → eqb (length (firstWord t)) 0 ≡ u → numberSetRead t ≡ onlyNumber a
-    go true e = rw e (sym (empty-word (firstWord t) (eqb-true (length (firstWord t)) 0 e)))
-    go false e = rw (e, first-number a) (read (isRead a) refl)
+set-done : (k : Kind) (n set : ℕ) (t : List ℕ) → length (firstWord t) ≡ 0 → setOf k n set t ≡ setRead set
+unfolding setOf
+set-done k zero set t none = rw (eq-eqb (length (firstWord t)) 0 none)
+set-done k (suc n) set t none = rw (eq-eqb (length (firstWord t)) 0 none)
+
+set-more :
+    (k : Kind) (n set : ℕ) (t : List ℕ) →
+    (length (firstWord t) ≡ 0 → ⊥) →
+    setOf k (suc n) set t
+    ≡ cond (isRead (withValue k set (valueRead k t .read))) (setOf k n (withValue k set (valueRead k t .read) .number) (afterWords (valueRead k t .words) t)) (withValue k set (valueRead k t .read))
+unfolding setOf
+set-more k n set t some = rw (ne-eqb (length (firstWord t)) 0 some)
+
+-- a line of one number means the set of that number, as it did before there were names
+pub one-number :
+    (k : Kind) (t : List ℕ) →
+    isWeekday k ≡ false →
+    numberRead (firstWord t) .refusal ≡ 0 →
+    length (firstWord (afterWord t)) ≡ 0 →
+    namedSetRead k t ≡ theNumber (numberBit (numberRead (firstWord t) .number))
+unfolding afterWords
+one-number k t e good last =
+    let a = numberRead (firstWord t) in
+    rw e
+    (set-more k 29 0 t (number-some (firstWord t) good)
+    ∙ rw (value-number k t good, with-only k a e good) (set-done k 29 (numberBit (a .number)) (afterWords 1 t) last ∙ set-of-bit (a .number)))

@@ -11,9 +11,10 @@ use Rattle.days.specs.declared.NumberAnswer.{NumberAnswer}
 use Rattle.days.specs.Refusals.{badInput}
 use Rattle.days.specs.Weekdays.{inSet}
 use Rattle.text.specs.Decimal.{isNumber, numberRead}
-use Rattle.words.specs.Words.{dash, firstWord, afterWord}
+use Rattle.names.specs.declared.Kind.{Kind}
+use Rattle.words.specs.Words.{dash, firstWord, afterWords}
 use Rattle.values.specs.declared.Three.{Three}
-use Rattle.values.specs.Values.{isRead, threeRead, dateRead, numberOr, dayRead, weekdayRead, withWeekday, inNumbers, withNumberRead, withWord, setRead, setOf, noneRead}
+use Rattle.values.specs.Values.{isRead, threeRead, dateRead, numberOr, dayRead, isWeekday, valueRead, withWeekday, inNumbers, withNumberRead, withValue, setRead, setOf, noneRead}
 
 -- what holds of both cases holds of the one that a test picks
 pub either : {A : Type 0} (P : A → Type 0) (t : Bool) {x y : A} → P x → P y → P (cond t x y)
@@ -53,21 +54,22 @@ unfolding withNumberRead
 with-number-refusal set n =
     either OfReading (isRead n) (either OfReading (inNumbers set (n .number)) (omega arith) (omega arith)) (omega arith)
 
-with-word-refusal : (weekdays : Bool) (set : ℕ) (w : List ℕ) → OfReading (withWord weekdays set w)
-unfolding withWord
-with-word-refusal weekdays set w = either OfReading weekdays (with-weekday-refusal set (weekdayRead w)) (with-number-refusal set (numberRead w))
+with-value-refusal : (k : Kind) (set : ℕ) (n : NumberAnswer) → OfReading (withValue k set n)
+unfolding withValue
+with-value-refusal k set n = either OfReading (isWeekday k) (with-weekday-refusal set n) (with-number-refusal set n)
 
 set-refusal : (set : ℕ) → OfReading (setRead set)
 unfolding setRead
 set-refusal set = either OfReading (eqb set 0) (omega arith) (omega arith)
 
-pub set-of-refusal : (weekdays : Bool) (n set : ℕ) (t : List ℕ) → OfReading (setOf weekdays n set t)
+pub set-of-refusal : (k : Kind) (n set : ℕ) (t : List ℕ) → OfReading (setOf k n set t)
 unfolding setOf
-set-of-refusal weekdays zero set t = either OfReading (eqb (length (firstWord t)) 0) (set-refusal set) (omega arith)
-set-of-refusal weekdays (suc n) set t =
-    let more = withWord weekdays set (firstWord t) in
+set-of-refusal k zero set t = either OfReading (eqb (length (firstWord t)) 0) (set-refusal set) (omega arith)
+set-of-refusal k (suc n) set t =
+    let v = valueRead k t in
+    let more = withValue k set (v .read) in
     either OfReading (eqb (length (firstWord t)) 0) (set-refusal set)
-    (either OfReading (isRead more) (set-of-refusal weekdays n (more .number) (afterWord t)) (with-word-refusal weekdays set (firstWord t)))
+    (either OfReading (isRead more) (set-of-refusal k n (more .number) (afterWords (v .words) t)) (with-value-refusal k set (v .read)))
 
 pub none-refusal : (w : List ℕ) → OfReading (noneRead w)
 unfolding noneRead

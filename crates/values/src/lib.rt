@@ -2,25 +2,34 @@
 use civil::Date;
 use days::NumberAnswer;
 use days::refusal;
+use names::Kind;
 use query::Asked;
 use text::read_decimal;
 use words::after;
 use words::after_word;
+use words::after_words;
 use words::first_word;
 use words::up_to;
-use words::weekday_place;
 ghost use mathlib.Core.Bool.{true};
 ghost use mathlib.Core.Path.{_≡_};
 ghost use Prim.Native.Nat.{_≤_};
-ghost use Rattle.values.specs.Values.{threeRead, sexagesimalRead, angleRead, dateRead, dayRead, mostWeekdays, weekdayRead, withWeekday, inNumbers, withNumberRead, withWord, setRead, setOf, weekdaysRead, numberSetRead, noneRead};
+ghost use Rattle.values.specs.Values.{threeRead, twoRead, degreesRead, sexagesimalRead, angleRead, dateRead, dayRead, elapsedIn, halfRead, isTithi, halfNamed, isWeekday, nameValue, valueRead, mostWeekdays, withWeekday, inNumbers, withNumberRead, withValue, setRead, setOf, namedSetRead, noneRead};
 
-// The most words that a line's set is made of: each weekday, and as many numbers as there are tithis.
+// The most values that a line's set is made of: each weekday, and as many numbers as there are tithis.
 pub const MOST_WEEKDAYS: usize = 7;
 
 pub const MOST_NUMBERS: usize = 30;
 
-// The largest number that has a bit of its own in a query's set.
+// The largest number that has a bit of its own in a query's set; the one behind it is no tithi's.
 const LARGEST: u32 = 30;
+
+const NO_TITHI: u32 = 31;
+
+// A value of a set, and how many words it is.
+struct Value {
+    words: usize,
+    read: NumberAnswer,
+}
 
 // Three numbers with a separator between them.
 struct Three {
@@ -80,6 +89,36 @@ fn sexagesimal(t: Three) -> NumberAnswer
     NumberAnswer::accepted(number)
 }
 
+// Two numbers with a separator between them, and 0 for a third.
+fn two_of(word: &[u8], separator: u8) -> Three
+    ensures { λ r. ⌜ r ≡ twoRead separator (now (word .entry)) ⌝ }
+{
+    let first = read_decimal(up_to(word, separator));
+    let second = read_decimal(after(word, separator));
+    if first.refusal != refusal::NONE {
+        return NOT_THREE;
+    }
+    if second.refusal != refusal::NONE {
+        return NOT_THREE;
+    }
+    Three {
+        read: true,
+        first: first.number,
+        second: second.number,
+        third: 0,
+    }
+}
+
+fn degrees(word: &[u8]) -> Three
+    ensures { λ r. ⌜ r ≡ degreesRead (now (word .entry)) ⌝ }
+{
+    let three = three_of(word, b':');
+    if three.read {
+        return three;
+    }
+    two_of(word, b':')
+}
+
 pub fn angle(word: &[u8]) -> NumberAnswer
     ensures { λ r. ⌜ r ≡ angleRead (now (word .entry)) ⌝ }
 {
@@ -87,7 +126,7 @@ pub fn angle(word: &[u8]) -> NumberAnswer
     if seconds.refusal == refusal::NONE {
         return seconds;
     }
-    sexagesimal(three_of(word, b':'))
+    sexagesimal(degrees(word))
 }
 
 fn date(t: Three) -> NumberAnswer
@@ -113,14 +152,95 @@ pub fn day(word: &[u8]) -> NumberAnswer
     date(three_of(word, b'-'))
 }
 
-fn weekday(word: &[u8]) -> NumberAnswer
-    ensures { λ r. ⌜ r ≡ weekdayRead (now (word .entry)) ⌝ }
+// The tithis elapsed while the nth of a half of the month runs.
+fn elapsed_in(half: u32, number: u32) -> u32
+    requires { ⌜ half ≤ 1 ⌝ }
+    ensures { λ r. ⌜ r ≡ elapsedIn half number ⌝ }
 {
-    let place = weekday_place(word);
-    if place < 7 {
-        return NumberAnswer::accepted(place as u32);
+    if number < 1 {
+        return NO_TITHI;
     }
-    read_decimal(word)
+    if 15 < number {
+        return NO_TITHI;
+    }
+    15 * half + (number - 1)
+}
+
+fn in_half(half: u32, number: NumberAnswer) -> NumberAnswer
+    requires { ⌜ half ≤ 1 ⌝ }
+    ensures { λ r. ⌜ r ≡ halfRead half number ⌝ }
+{
+    if number.refusal != refusal::NONE {
+        return NumberAnswer::refused(refusal::BAD_INPUT);
+    }
+    let elapsed = elapsed_in(half, number.number);
+    NumberAnswer::accepted(elapsed)
+}
+
+fn is_tithi(kind: Kind) -> bool
+    ensures { λ r. ⌜ r ≡ isTithi kind ⌝ }
+{
+    match kind {
+        Kind::Tithi => true,
+        Kind::Nakshatra => false,
+        Kind::Yoga => false,
+        Kind::Karana => false,
+        Kind::Sign => false,
+        Kind::Month => false,
+        Kind::Fortnight => false,
+        Kind::Weekday => false,
+    }
+}
+
+// The half of the month that a word names, where a tithi is asked for.
+fn half_of(kind: Kind, word: &[u8]) -> NumberAnswer
+    ensures { λ r. ⌜ r ≡ halfNamed kind (now (word .entry)) ⌝ }
+{
+    if is_tithi(kind) {
+        return names::number_of(Kind::Fortnight, word);
+    }
+    NumberAnswer::refused(refusal::BAD_INPUT)
+}
+
+fn is_weekday(kind: Kind) -> bool
+    ensures { λ r. ⌜ r ≡ isWeekday kind ⌝ }
+{
+    match kind {
+        Kind::Tithi => false,
+        Kind::Nakshatra => false,
+        Kind::Yoga => false,
+        Kind::Karana => false,
+        Kind::Sign => false,
+        Kind::Month => false,
+        Kind::Fortnight => false,
+        Kind::Weekday => true,
+    }
+}
+
+// The value by name at the front of a text: one word; or of a tithi the name of a half of the month and a number.
+fn name_value(kind: Kind, text: &[u8]) -> Value
+    ensures { λ r. ⌜ r ≡ nameValue kind (now (text .entry)) ⌝ }
+{
+    let word = first_word(text);
+    let half = half_of(kind, word);
+    if half.refusal == refusal::NONE {
+        let number = read_decimal(first_word(after_word(text)));
+        let read = in_half(half.number, number);
+        return Value { words: 2, read };
+    }
+    let read = names::number_of(kind, word);
+    Value { words: 1, read }
+}
+
+// The value at the front of a text: a number, or else a name.
+fn read_value(kind: Kind, text: &[u8]) -> Value
+    ensures { λ r. ⌜ r ≡ valueRead kind (now (text .entry)) ⌝ }
+{
+    let read = read_decimal(first_word(text));
+    if read.refusal == refusal::NONE {
+        return Value { words: 1, read };
+    }
+    name_value(kind, text)
 }
 
 // The set with a weekday more, which must not be in it.
@@ -164,15 +284,15 @@ fn with_number(set: u32, number: NumberAnswer) -> NumberAnswer
     NumberAnswer::accepted(more.set)
 }
 
-// The set with a word more, a weekday or a number.
-fn with_word(weekdays: bool, set: u32, word: &[u8]) -> NumberAnswer
-    requires { ⌜ (weekdays ≡ true → set ≤ 768) ⌝ }
-    ensures { λ r. ⌜ r ≡ withWord weekdays set (now (word .entry)) ⌝ }
+// The set with a value more, a weekday or a number.
+fn with_value(kind: Kind, set: u32, value: NumberAnswer) -> NumberAnswer
+    requires { ⌜ (isWeekday kind ≡ true → set ≤ 768) ⌝ }
+    ensures { λ r. ⌜ r ≡ withValue kind set value ⌝ }
 {
-    if weekdays {
-        return with_weekday(set, weekday(word));
+    if is_weekday(kind) {
+        return with_weekday(set, value);
     }
-    with_number(set, read_decimal(word))
+    with_number(set, value)
 }
 
 fn no_empty_set(set: u32) -> NumberAnswer
@@ -185,10 +305,10 @@ fn no_empty_set(set: u32) -> NumberAnswer
     }
 }
 
-// The words of a line, one to so many, as a set of weekdays or of numbers.
-fn set_of(weekdays: bool, most: usize, text: &[u8]) -> NumberAnswer
-    requires { ⌜ (weekdays ≡ true → most ≤ mostWeekdays) ⌝ }
-    ensures { λ r. ⌜ r ≡ setOf weekdays most 0 (now (text .entry)) ⌝ }
+// The values of a line, one to so many, as a set of weekdays or of numbers.
+fn set_of(kind: Kind, most: usize, text: &[u8]) -> NumberAnswer
+    requires { ⌜ (isWeekday kind ≡ true → most ≤ mostWeekdays) ⌝ }
+    ensures { λ r. ⌜ r ≡ setOf kind most 0 (now (text .entry)) ⌝ }
 {
     let mut set = 0;
     let mut left = most;
@@ -201,29 +321,26 @@ fn set_of(weekdays: bool, most: usize, text: &[u8]) -> NumberAnswer
         if left == 0 {
             return NumberAnswer::refused(refusal::BAD_INPUT);
         }
-        let found = with_word(weekdays, set, word);
+        let next = read_value(kind, rest);
+        let found = with_value(kind, set, next.read);
         if found.refusal != refusal::NONE {
             return found;
         }
         set = found.number;
         left -= 1;
-        let others = after_word(rest);
+        let others = after_words(rest, next.words);
         rest = others;
     }
 }
 
-// The weekdays of a line, one to seven words, as a set.
-pub fn weekdays(text: &[u8]) -> NumberAnswer
-    ensures { λ r. ⌜ r ≡ weekdaysRead (now (text .entry)) ⌝ }
+// The weekdays or the elements of a line, by their numbers or names, as a set.
+pub fn named_set(kind: Kind, text: &[u8]) -> NumberAnswer
+    ensures { λ r. ⌜ r ≡ namedSetRead kind (now (text .entry)) ⌝ }
 {
-    set_of(true, MOST_WEEKDAYS, text)
-}
-
-// The numbers of a line, one to thirty words, as a query's set.
-pub fn number_set(text: &[u8]) -> NumberAnswer
-    ensures { λ r. ⌜ r ≡ numberSetRead (now (text .entry)) ⌝ }
-{
-    set_of(false, MOST_NUMBERS, text)
+    if is_weekday(kind) {
+        return set_of(kind, MOST_WEEKDAYS, text);
+    }
+    set_of(kind, MOST_NUMBERS, text)
 }
 
 // The place of a value that the line must not have.

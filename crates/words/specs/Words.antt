@@ -92,6 +92,10 @@ smallFrom before (b ∷ bs) = smallByte before b ∷ smallFrom b bs
 abbrev pub small : List ℕ → List ℕ
 small w = smallFrom 0 w
 
+-- a text without the byte order mark that some editors put in front: 239 187 191
+unfoldable pub unmarked : List ℕ → List ℕ
+unmarked t = cond (sameBytes (take 3 t) (239 ∷ 187 ∷ 191 ∷ [])) (drop 3 t) t
+
 -- the place of a word among names, counted from 0, which are in small letters; of a word that is none of them, how many
 -- names there are
 unfoldable pub placeIn : List (List ℕ) → List ℕ → ℕ

@@ -2,7 +2,7 @@
 ghost use mathlib.Core.Path.{_≡_};
 ghost use Rattle.text.specs.Lines.{space};
 ghost use Rattle.words.specs.Names.{weekdayNames, bodyNames, trueNames};
-ghost use Rattle.words.specs.Words.{isSeparator, inRun, runLength, upTo, afterFirst, trimmed, firstWord, afterWord, afterWords, pieces, behindMark, smallByte, small, sameBytes, placeIn, nameAt};
+ghost use Rattle.words.specs.Words.{isSeparator, inRun, runLength, upTo, afterFirst, trimmed, firstWord, afterWord, afterWords, pieces, behindMark, smallByte, small, sameBytes, unmarked, placeIn, nameAt};
 
 pub const WEEKDAYS: [u8; 56] = *b"monday tuesday wednesday thursday friday saturday sunday";
 
@@ -72,6 +72,25 @@ pub fn after(s: &[u8], separator: u8) -> &[u8]
     }
     let next = end + 1;
     &s[next..]
+}
+
+// What follows a byte order mark in front; all of a text that has none.
+pub fn unmarked(text: &[u8]) -> &[u8]
+    ensures { λ r. ⌜ now r ≡ unmarked (now (text .entry)) ⌝ }
+{
+    if text.len() < 3 {
+        return text;
+    }
+    if text[0] != 239 {
+        return text;
+    }
+    if text[1] != 187 {
+        return text;
+    }
+    if text[2] != 191 {
+        return text;
+    }
+    &text[3..]
 }
 
 fn trim(s: &[u8]) -> &[u8]

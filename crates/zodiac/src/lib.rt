@@ -21,7 +21,7 @@ pub enum Sun {
 }
 
 // Seconds of arc in a sign, and how many signs there are.
-const SIGN: u32 = 108000;
+pub const SIGN: u32 = 108000;
 
 const SIGNS: usize = 12;
 

@@ -13,7 +13,7 @@ refused-requires : tie.Need-refused-requires
 refused-requires c κs = search needs
 
 returns : tie.Need-returns
-returns c = rw (c .refused .ensures) (line-refused _ _ _ _ _ (c .before .before .heading-line .ensures) (c .before .if1 .taken))
+returns c = rw (c .refused .ensures) (line-refused _ _ _ _ _ _ (c .before .before .heading-line .ensures) (c .before .if1 .taken))
 
 put-requires : tie.Need-put-requires
 put-requires c κs =
@@ -29,7 +29,7 @@ same-length c = search needs
 returns-2 : tie.Need-returns-2
 returns-2 c =
     let made = c .before .before .before .before .before .before in
-    rw (c .accepted .ensures, c .before .before .before .put .ensures) (line-put _ _ _ _ _ (made .heading-line .ensures) (c .before .before .before .before .before .if1 .left))
+    rw (c .accepted .ensures, c .before .before .before .put .ensures) (line-put _ _ _ _ _ _ (made .heading-line .ensures) (c .before .before .before .before .before .if1 .left))
 
 pub put-heading-spec : {M : Type 1} → statement M
 put-heading-spec =

@@ -13,16 +13,16 @@ use Rattle.catalogue.proofs.put_lines.Reads as reads
 use Rattle.catalogue.proofs.put_lines.Lts as lts
 
 abbrev Inv-loop : tie.InvT-loop
-Inv-loop edition list from buffer₀ piece₀ buffer piece = Filling edition list from buffer₀ buffer piece
+Inv-loop print edition list from buffer₀ piece₀ buffer piece = Filling print edition list from buffer₀ buffer piece
 
 abbrev μ-loop : tie.MeasureT-loop
-μ-loop edition list from buffer₀ piece₀ buffer piece = capacity list - piece .next
+μ-loop print edition list from buffer₀ piece₀ buffer piece = capacity list - piece .next
 
 accepted-requires : tie.Need-accepted-requires Inv-loop μ-loop
 accepted-requires c κs = search needs
 
 loop-holds : tie.Need-loop-holds Inv-loop μ-loop
-loop-holds c = filling-start _ _ _ _ _ (c .accepted .ensures)
+loop-holds c = filling-start _ _ _ _ _ _ (c .accepted .ensures)
 
 entry-at-requires : tie.Need-entry-at-requires Inv-loop μ-loop
 entry-at-requires c κs = search needs
@@ -33,7 +33,7 @@ same-length c = c .before .before .before .loop .inv .same
 returns : tie.Need-returns Inv-loop μ-loop
 returns c =
     let l = c .before .before .before in
-    ended-list _ _ _ _ _ _ (l .loop .inv) (due-none _ _ _ (c .before .before .entry-at .ensures) (c .if1 .taken))
+    ended-list _ _ _ _ _ _ _ (l .loop .inv) (due-none _ _ _ (c .before .before .entry-at .ensures) (c .if1 .taken))
 
 refused-requires : tie.Need-refused-requires Inv-loop μ-loop
 refused-requires c κs = search needs
@@ -49,7 +49,7 @@ returns-2 c =
     let read = c .before .before .before .before in
     let l = read .before .before .before in
     let due = due-some _ _ _ (read .before .before .entry-at .ensures) (read .if1 .left) in
-    rw (c .unless-empty .ensures, c .before .refused .ensures) (ended-no-day _ _ _ _ _ _ (l .loop .inv) _ due (c .before .before .if2 .taken))
+    rw (c .unless-empty .ensures, c .before .refused .ensures) (ended-no-day _ _ _ _ _ _ _ (l .loop .inv) _ due (c .before .before .if2 .taken))
 
 day-line-requires : tie.Need-day-line-requires Inv-loop μ-loop
 day-line-requires c κs = search needs
@@ -72,7 +72,7 @@ returns-3 c =
     let l = read .before .before .before in
     let due = due-some _ _ _ (read .before .before .entry-at .ensures) (read .if1 .left) in
     rw (c .unless-empty2 .ensures, c .before .refused2 .ensures)
-    (ended-no-room _ _ _ _ _ _ (l .loop .inv) _ due _ (c .before .before .before .before .day-line .ensures) (c .before .before .before .before .before .if2 .left) (omega (arith, c .before .before .if3 .taken, l .loop .inv .same)))
+    (ended-no-room _ _ _ _ _ _ _ (l .loop .inv) _ due _ (c .before .before .before .before .day-line .ensures) (c .before .before .before .before .before .if2 .left) (omega (arith, c .before .before .if3 .taken, l .loop .inv .same)))
 
 put-requires : tie.Need-put-requires Inv-loop μ-loop
 put-requires c κs =
@@ -107,7 +107,7 @@ loop-again c =
     let l = read .before .before .before in
     let due = due-some _ _ _ (read .before .before .entry-at .ensures) (read .if1 .left) in
     rw (c .accepted2 .ensures)
-    (filling-step _ _ _ _ _ _ _ _ _ (l .loop .inv) due (fits .before .before .before .if2 .left) (fits .before .before .day-line .ensures) (omega (arith, fits .if3 .left, l .loop .inv .same)) (c .before .before .before .before .before .put .ensures))
+    (filling-step _ _ _ _ _ _ _ _ _ _ (l .loop .inv) due (fits .before .before .before .if2 .left) (fits .before .before .day-line .ensures) (omega (arith, fits .if3 .left, l .loop .inv .same)) (c .before .before .before .before .before .put .ensures))
 
 pub put-lines-spec : {M : Type 1} → statement M
 put-lines-spec =

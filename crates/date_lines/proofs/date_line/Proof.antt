@@ -1,6 +1,7 @@
 -- `date_line` meets its contract: each place has its digit. Assumes nothing.
 use mathlib.Core.Path.{_≡_}
 use Prim.Native.Nat.{_/_, _%_}
+use Rattle.dated.specs.Dated.{fullDateBytes}
 use Rattle.date_lines.specs.Lines.{dateLine}
 use native.Mathlib.Omega.{arith}
 use borrow.Author.Needs.{needs}
@@ -32,7 +33,7 @@ digit-requires-8 : tie.Need-digit-requires-8
 digit-requires-8 c κs = search needs
 
 returns : tie.Need-returns
-unfolding dateLine
+unfolding dateLine fullDateBytes
 returns c =
     let x = c .before .before .before .before .before .before .before .before .before .before .before .before .before .before .before .before .args .date in
     let y : x .year / 1000 % 10 ≡ x .year / 1000 = omega arith in

@@ -3,7 +3,7 @@ use Prim.Native.Nat.{ℕ, _+_, _-_}
 use mathlib.Core.Path.{_≡_}
 use native.Mathlib.Omega.{arith}
 use Rattle.reasons.specs.Reasons.{causeOf}
-use Rattle.explanation.specs.Explanations.{verdictOf}
+use Rattle.explanation.specs.Explanations.{elementText, verdictOf}
 use Rattle.explanation.proofs.Making.{unfit-said, end-said}
 use borrow.Author.Needs.{needs}
 use Rattle.explanation.proofs.put_verdict.Statement.{statement}
@@ -103,37 +103,37 @@ put-true-arcs-requires : tie.Need-put-true-arcs-requires
 put-true-arcs-requires c κs = search needs
 
 returns : tie.Need-returns
-unfolding causeOf verdictOf
+unfolding causeOf verdictOf elementText
 returns c = rw (c .text2 .ensures, c .before .before .enum-told .given .1)
 
 returns-2 : tie.Need-returns-2
-unfolding causeOf verdictOf
+unfolding causeOf verdictOf elementText
 returns-2 c =
     rw (c .put-day .ensures, c .before .text3 .ensures, c .before .before .before .before .before .before .text .ensures, c .before .before .before .before .reason .given .1) (end-said _ _ _)
 
 returns-3 : tie.Need-returns-3
-unfolding causeOf verdictOf
+unfolding causeOf verdictOf elementText
 returns-3 c =
     rw (c .put-day2 .ensures, c .before .text4 .ensures, c .before .before .before .before .before .before .text .ensures, c .before .before .before .before .reason2 .given .1) (end-said _ _ _)
 
 returns-4 : tie.Need-returns-4
-unfolding causeOf verdictOf
+unfolding causeOf verdictOf elementText
 returns-4 c = rw (c .put-weekdays .ensures, c .before .before .before .before .text .ensures, c .before .before .reason3 .given .1) (unfit-said _ _)
 
 returns-5 : tie.Need-returns-5
-unfolding causeOf verdictOf
+unfolding causeOf verdictOf elementText
 returns-5 c = rw (c .put-numbers .ensures, c .before .before .before .before .before .text .ensures, c .before .before .before .reason4 .given .1) (unfit-said _ _)
 
 returns-6 : tie.Need-returns-6
-unfolding causeOf verdictOf
+unfolding causeOf verdictOf elementText
 returns-6 c = rw (c .put-numbers2 .ensures, c .before .before .before .before .before .text .ensures, c .before .before .before .reason5 .given .1) (unfit-said _ _)
 
 returns-7 : tie.Need-returns-7
-unfolding causeOf verdictOf
+unfolding causeOf verdictOf elementText
 returns-7 c = rw (c .put-numbers3 .ensures, c .before .before .before .before .before .text .ensures, c .before .before .before .reason6 .given .1) (unfit-said _ _)
 
 returns-8 : tie.Need-returns-8
-unfolding causeOf verdictOf
+unfolding causeOf verdictOf elementText
 returns-8 c = rw (c .put-numbers4 .ensures, c .before .before .before .before .before .text .ensures, c .before .before .before .reason7 .given .1) (unfit-said _ _)
 
 -- a place back from the number of its condition
@@ -141,11 +141,11 @@ back : (first place : ℕ) → first + place - first ≡ place
 back first place = omega arith
 
 returns-9 : tie.Need-returns-9
-unfolding causeOf verdictOf
+unfolding causeOf verdictOf elementText
 returns-9 c = rw (c .put-mean-arcs .ensures, c .before .before .before .before .text .ensures, c .before .before .reason8 .given .1, back 7 _) (unfit-said _ _)
 
 returns-10 : tie.Need-returns-10
-unfolding causeOf verdictOf
+unfolding causeOf verdictOf elementText
 returns-10 c = rw (c .put-true-arcs .ensures, c .before .before .before .before .text .ensures, c .before .before .reason9 .given .1, back 17 _) (unfit-said _ _)
 
 pub put-verdict-spec : {M : Type 1} → statement M

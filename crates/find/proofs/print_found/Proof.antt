@@ -16,9 +16,16 @@ with-sun-arcs-requires c κs = search needs
 list-first-requires : tie.Need-list-first-requires
 list-first-requires c κs = search needs
 
+say-counts-requires : tie.Need-say-counts-requires
+say-counts-requires c κs =
+    let searched = c .before .before in
+    let start = searched .before .before .before .before .before in
+    let told = rw (searched .before .before .with-sun-arcs .ensures) at (searched .list-first .ensures .0) in
+    (count _ (start .pre .0) _ told, visits _ (start .pre .0) _ told)
+
 print-heading-requires : tie.Need-print-heading-requires
 print-heading-requires c κs =
-    let searched = c .before .before .before in
+    let searched = c .before .before .before .before in
     let start = searched .before .before .before .before .before in
     let told = rw (searched .before .before .with-sun-arcs .ensures) at (searched .list-first .ensures .0) in
     ((start .pre .0, start .pre .2), (count _ (start .pre .0) _ told, visits _ (start .pre .0) _ told))
@@ -47,12 +54,12 @@ returns-2 c = search needs
 print-listed-requires : tie.Need-print-listed-requires
 print-listed-requires c κs =
     let headed = c .before .before .before .before .before .before .before .before in
-    let searched = headed .before .before .before .before in
+    let searched = headed .before .before .before .before .before in
     let start = searched .before .before .before .before .before in
     let told = rw (searched .before .before .with-sun-arcs .ensures) at (searched .list-first .ensures .0) in
     let put = rw (searched .before .before .with-sun-arcs .ensures) at (searched .list-first .ensures .1) in
     let filled = by-first _ (start .pre .0) _ told _ _ put (omega (arith, c .before .before .if2 .left, start .pre .1)) in
-    (start .pre .0, whole-next _ (start .pre .0) _ (headed .print-heading .ensures) _ _ _ filled _ (omega (arith, start .pre .2, headed .print-heading .kept .1 .1 .0)))
+    (start .pre .0, whole-next _ _ (start .pre .0) _ (headed .print-heading .ensures) _ _ _ filled _ (omega (arith, start .pre .2, headed .print-heading .kept .1 .1 .1 .0)))
 
 same-length-5 : tie.Need-same-length-5
 same-length-5 c = search needs
@@ -64,12 +71,12 @@ returns-3 : tie.Need-returns-3
 returns-3 c =
     let printed = c .before .before in
     let headed = printed .before .before .before .before .before .before .before .before .before in
-    let searched = headed .before .before .before .before in
+    let searched = headed .before .before .before .before .before in
     let start = searched .before .before .before .before .before in
     let told = rw (searched .before .before .with-sun-arcs .ensures) at (searched .list-first .ensures .0) in
     let put = rw (searched .before .before .with-sun-arcs .ensures) at (searched .list-first .ensures .1) in
     let filled = by-first _ (start .pre .0) _ told _ _ put (omega (arith, printed .before .before .before .if2 .left, start .pre .1)) in
-    λ e. whole-printed _ (start .pre .0) _ (headed .print-heading .ensures) _ _ _ filled _ (printed .print-listed .ensures e)
+    λ e. whole-printed _ _ (start .pre .0) _ (headed .print-heading .ensures) _ _ _ filled _ (printed .print-listed .ensures e)
 
 pub print-found-spec : {M : Type 1} → statement M
 print-found-spec =
@@ -77,6 +84,7 @@ print-found-spec =
     (tie.spec
     with-sun-arcs-requires
     list-first-requires
+    say-counts-requires
     print-heading-requires
     same-length
     same-length-2

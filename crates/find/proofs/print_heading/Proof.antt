@@ -9,26 +9,26 @@ use borrow.Author.Needs.{needs}
 use Rattle.find.proofs.print_heading.Statement.{statement}
 use Rattle.find.proofs.print_heading.Tie as tie
 
-heading-requires : tie.Need-heading-requires
-heading-requires c κs = search needs
+heading-in-requires : tie.Need-heading-in-requires
+heading-in-requires c κs = search needs
 
 slice-reshare-prefix-write-next : tie.Need-slice-reshare-prefix-write-next
 slice-reshare-prefix-write-next c =
     let called = c .before .before in
     let start = called .before .before .before in
-    omega (arith, heading-short _ (start .pre .0 .0), heading-bytes _ (start .pre .0 .0) _ _ (start .pre .1 .0) (start .pre .1 .1) _ (start .pre .0 .1) _ _ (called .heading .ensures .0) (called .heading .ensures .1), called .heading .kept .1 .1 .1 .0)
+    omega (arith, heading-short (start .args .print) _ (start .pre .0 .0), heading-bytes _ _ (start .pre .0 .0) _ _ (start .pre .1 .0) (start .pre .1 .1) _ (start .pre .0 .1) _ _ (called .heading-in .ensures .0) (called .heading-in .ensures .1), called .heading-in .kept .1 .1 .1 .1 .0)
 
 slice-aggregate-write-next : tie.Need-slice-aggregate-write-next
 slice-aggregate-write-next c =
     let called = c .before .before .before in
     let start = called .before .before .before in
-    heading-bytes _ (start .pre .0 .0) _ _ (start .pre .1 .0) (start .pre .1 .1) _ (start .pre .0 .1) _ _ (called .heading .ensures .0) (called .heading .ensures .1) ∙ ap length (sym (heading-taken _ (start .pre .0 .0) _ _ (start .pre .1 .0) (start .pre .1 .1) _ (start .pre .0 .1) _ _ (called .heading .ensures .0) (called .heading .ensures .1)))
+    heading-bytes _ _ (start .pre .0 .0) _ _ (start .pre .1 .0) (start .pre .1 .1) _ (start .pre .0 .1) _ _ (called .heading-in .ensures .0) (called .heading-in .ensures .1) ∙ ap length (sym (heading-taken _ _ (start .pre .0 .0) _ _ (start .pre .1 .0) (start .pre .1 .1) _ (start .pre .0 .1) _ _ (called .heading-in .ensures .0) (called .heading-in .ensures .1)))
 
 write-next-requires : tie.Need-write-next-requires
 write-next-requires c κs =
     let called = c .before .before .before in
     let start = called .before .before .before in
-    heading-next _ (start .pre .0 .0) _ _ (start .pre .1 .0) (start .pre .1 .1) _ (start .pre .0 .1) _ _ (called .heading .ensures .0) (called .heading .ensures .1)
+    heading-next _ _ (start .pre .0 .0) _ _ (start .pre .1 .0) (start .pre .1 .1) _ (start .pre .0 .1) _ _ (called .heading-in .ensures .0) (called .heading-in .ensures .1)
 
 same-length : tie.Need-same-length
 same-length c = search needs
@@ -37,13 +37,13 @@ returns : tie.Need-returns
 returns c =
     let called = c .before .before .before .before in
     let start = called .before .before .before in
-    heading-bytes _ (start .pre .0 .0) _ _ (start .pre .1 .0) (start .pre .1 .1) _ (start .pre .0 .1) _ _ (called .heading .ensures .0) (called .heading .ensures .1)
+    heading-bytes _ _ (start .pre .0 .0) _ _ (start .pre .1 .0) (start .pre .1 .1) _ (start .pre .0 .1) _ _ (called .heading-in .ensures .0) (called .heading-in .ensures .1)
 
 pub print-heading-spec : {M : Type 1} → statement M
 print-heading-spec =
     tie.close
     (tie.spec
-    heading-requires
+    heading-in-requires
     slice-reshare-prefix-write-next
     slice-aggregate-write-next
     write-next-requires

@@ -13,14 +13,14 @@ use Rattle.find.proofs.print_parts.Tie as tie
 use Rattle.query.proofs.Accepted.{accepted-by}
 
 abbrev Inv-loop : tie.InvT-loop
-Inv-loop query before list₀ buffer₀ written₀ first₀ list buffer written first =
-    (length list ≡ length list₀) × (length buffer ≡ length buffer₀) × Parting query first written
+Inv-loop print query before list₀ buffer₀ written₀ first₀ list buffer written first =
+    (length list ≡ length list₀) × (length buffer ≡ length buffer₀) × Parting print query first written
 
 abbrev μ-loop : tie.MeasureT-loop
-μ-loop query before list₀ buffer₀ written₀ first₀ list buffer written first = query .last + 1 - first
+μ-loop print query before list₀ buffer₀ written₀ first₀ list buffer written first = query .last + 1 - first
 
 loop-holds : tie.Need-loop-holds Inv-loop μ-loop
-loop-holds c = (refl, refl, parting-start _ (c .before .before .pre .0 .0) _ (c .before .before .pre .0 .1))
+loop-holds c = (refl, refl, parting-start _ _ (c .before .before .pre .0 .0) _ (c .before .before .pre .0 .1))
 
 part-end-requires : tie.Need-part-end-requires Inv-loop μ-loop
 part-end-requires c κs = search needs
@@ -44,8 +44,8 @@ print-listed-requires c κs =
     let found = rw (searched .before .before .with-sun-arcs .ensures, searched .before .before .before .part-of .ensures) at (searched .search .ensures) in
     let low = ends .part-end .ensures .0 in
     let high = ends .part-end .ensures .1 in
-    let filled = part-filled _ (start .pre .0 .0) _ _ _ (l .loop .inv .2) low high _ _ _ found (ends .part-end .ensures .2) room in
-    (start .pre .0 .0, part-next _ (start .pre .0 .0) _ _ _ (l .loop .inv .2) low high _ _ _ filled _ (omega (arith, start .pre .1 .1, l .loop .inv .1)))
+    let filled = part-filled _ _ (start .pre .0 .0) _ _ _ (l .loop .inv .2) low high _ _ _ found (ends .part-end .ensures .2) room in
+    (start .pre .0 .0, part-next _ _ (start .pre .0 .0) _ _ _ (l .loop .inv .2) low high _ _ _ filled _ (omega (arith, start .pre .1 .1, l .loop .inv .1)))
 
 same-length : tie.Need-same-length Inv-loop μ-loop
 same-length c =
@@ -57,7 +57,7 @@ same-length-2 : tie.Need-same-length-2 Inv-loop μ-loop
 same-length-2 c =
     let printed = c .before .before .before .before in
     let l = printed .before .before .before .before .before .before .before .before .before .before .before .before in
-    printed .print-listed .kept .1 .1 .1 .1 .0 ∙ l .loop .inv .1
+    printed .print-listed .kept .1 .1 .1 .1 .1 .0 ∙ l .loop .inv .1
 
 returns : tie.Need-returns Inv-loop μ-loop
 returns c = λ e. absurd (false≢true (sym (not-true _ (c .if2 .taken)) ∙ e))
@@ -82,9 +82,9 @@ loop-again c =
     let found = rw (searched .before .before .with-sun-arcs .ensures, searched .before .before .before .part-of .ensures) at (searched .search .ensures) in
     let low = ends .part-end .ensures .0 in
     let high = ends .part-end .ensures .1 in
-    let filled = part-filled _ (start .pre .0 .0) _ _ _ (l .loop .inv .2) low high _ _ _ found (ends .part-end .ensures .2) room in
+    let filled = part-filled _ _ (start .pre .0 .0) _ _ _ (l .loop .inv .2) low high _ _ _ found (ends .part-end .ensures .2) room in
     let printed = c .before .before .before .before in
-    (searched .search .kept .1 .0 ∙ l .loop .inv .0, printed .print-listed .kept .1 .1 .1 .1 .0 ∙ l .loop .inv .1, parting-step _ (start .pre .0 .0) _ _ _ (l .loop .inv .2) low high _ _ _ filled _ (printed .print-listed .ensures (not-false _ (c .if2 .left))))
+    (searched .search .kept .1 .0 ∙ l .loop .inv .0, printed .print-listed .kept .1 .1 .1 .1 .1 .0 ∙ l .loop .inv .1, parting-step _ _ (start .pre .0 .0) _ _ _ (l .loop .inv .2) low high _ _ _ filled _ (printed .print-listed .ensures (not-false _ (c .if2 .left))))
 
 same-length-3 : tie.Need-same-length-3 Inv-loop μ-loop
 same-length-3 c = c .before .before .loop .inv .0
@@ -93,7 +93,7 @@ same-length-4 : tie.Need-same-length-4 Inv-loop μ-loop
 same-length-4 c = c .before .before .loop .inv .1
 
 returns-2 : tie.Need-returns-2 Inv-loop μ-loop
-returns-2 c = λ _. parted _ (c .before .before .before .before .before .pre .0 .0) _ _ (c .before .before .loop .inv .2) (c .if1 .left)
+returns-2 c = λ _. parted _ _ (c .before .before .before .before .before .pre .0 .0) _ _ (c .before .before .loop .inv .2) (c .if1 .left)
 
 pub print-parts-spec : {M : Type 1} → statement M
 print-parts-spec =

@@ -29,14 +29,8 @@ slice-aggregate-text-4 c = search needs
 text-requires-4 : tie.Need-text-requires-4
 text-requires-4 c κs = search needs
 
-slice-aggregate-text-5 : tie.Need-slice-aggregate-text-5
-slice-aggregate-text-5 c = search needs
-
-text-requires-5 : tie.Need-text-requires-5
-text-requires-5 c κs = search needs
-
-with-refusal-requires : tie.Need-with-refusal-requires
-with-refusal-requires c κs = search needs
+with-values-requires : tie.Need-with-values-requires
+with-values-requires c κs = search needs
 
 returns : tie.Need-returns
 unfolding faultText
@@ -56,13 +50,9 @@ returns-4 c = rw (c .text4 .ensures, c .before .before .match .keys4)
 
 returns-5 : tie.Need-returns-5
 unfolding faultText
-returns-5 c = rw (c .text5 .ensures, c .before .before .match .keys5)
-
-returns-6 : tie.Need-returns-6
-unfolding faultText
-returns-6 c =
+returns-5 c =
     let none = c .before .match .rest in
-    rw (c .with-refusal .ensures, ne-eqb _ _ (none .0 .0 .0 .0 .1), ne-eqb _ _ (none .0 .0 .0 .1), ne-eqb _ _ (none .0 .0 .1), ne-eqb _ _ (none .0 .1), ne-eqb _ _ (none .1))
+    rw (c .with-values .ensures, ne-eqb _ _ (none .0 .0 .0 .1), ne-eqb _ _ (none .0 .0 .1), ne-eqb _ _ (none .0 .1), ne-eqb _ _ (none .1))
 
 pub with-reason-spec : {M : Type 1} → statement M
 with-reason-spec =
@@ -76,12 +66,9 @@ with-reason-spec =
     text-requires-3
     slice-aggregate-text-4
     text-requires-4
-    slice-aggregate-text-5
-    text-requires-5
-    with-refusal-requires
+    with-values-requires
     returns
     returns-2
     returns-3
     returns-4
-    returns-5
-    returns-6)
+    returns-5)

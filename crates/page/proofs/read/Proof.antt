@@ -18,8 +18,11 @@ abbrev μ-loop : tie.MeasureT-loop
 empty-page-requires : tie.Need-empty-page-requires Inv-loop μ-loop
 empty-page-requires c κs = search needs
 
+unmarked-requires : tie.Need-unmarked-requires Inv-loop μ-loop
+unmarked-requires c κs = search needs
+
 loop-holds : tie.Need-loop-holds Inv-loop μ-loop
-loop-holds c = rw (c .empty-page .ensures) (reading-start _)
+loop-holds c = rw (c .unmarked .ensures, c .before .empty-page .ensures) (reading-start _)
 
 run-length-requires : tie.Need-run-length-requires Inv-loop μ-loop
 run-length-requires c κs = search needs
@@ -43,7 +46,7 @@ with-line-requires : tie.Need-with-line-requires Inv-loop μ-loop
 with-line-requires c κs = search needs
 
 add-number : tie.Need-add-number Inv-loop μ-loop
-add-number c = omega (arith, c .before .before .before .before .before .before .loop .inv .room)
+add-number c = omega (arith, c .before .before .before .before .before .before .loop .inv .room, c .before .before .before .before .before .before .before .before .before .before .good .0 .1)
 
 after-requires : tie.Need-after-requires Inv-loop μ-loop
 after-requires c κs = search needs
@@ -67,6 +70,7 @@ read-spec =
     Inv-loop
     μ-loop
     empty-page-requires
+    unmarked-requires
     loop-holds
     run-length-requires
     with-fault-requires

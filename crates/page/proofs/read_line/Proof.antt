@@ -3,7 +3,7 @@ use mathlib.Core.Path.{refl, ap, _∙_}
 use Prim.Native.Nat.{ℕ}
 use borrow.Author.Needs.{needs}
 use Rattle.words.specs.Words.{firstWord, afterWords}
-use Rattle.page.specs.Page.{conditionRead}
+use Rattle.page.specs.Page.{malformedLine, conditionRead}
 use Rattle.page.proofs.Grammar.{words-are, words-blank, words-unknown, words-many, words-condition}
 use Rattle.page.proofs.read_line.Statement.{statement}
 use Rattle.page.proofs.read_line.Tie as tie
@@ -38,16 +38,20 @@ after-words-requires c κs = search needs
 first-word-requires-2 : tie.Need-first-word-requires-2
 first-word-requires-2 c κs = search needs
 
+other-values-requires : tie.Need-other-values-requires
+other-values-requires c κs = c .before .before .before .before .before .if2 .left
+
 malformed-requires-2 : tie.Need-malformed-requires-2
 malformed-requires-2 c κs = search needs
 
 returns-3 : tie.Need-returns-3
 returns-3 c =
     c .malformed2 .ensures
-    ∙ words-many _ _ _ (c .before .before .before .before .before .before .before .before .if1 .left) (c .before .before .before .before .before .before .before .keyword-of .ensures) (c .before .before .before .before .before .before .if2 .left) _
-    (c .before .before .first-word2 .ensures ∙ ap firstWord (c .before .before .before .after-words .ensures ∙ ap (λ (k : ℕ). afterWords k (c .before .before .before .before .before .after-word .result .now)) (c .before .before .before .before .most-values .ensures)))
-    (c .before .if3 .taken)
-    ∙ words-are _ _ _ _ (c .before .before .before .before .before .before .before .before .before .before .up-to .ensures) (c .before .before .before .before .before .before .before .before .before .first-word .ensures) (c .before .before .before .before .before .after-word .ensures)
+    ∙ ap malformedLine (c .before .other-values .ensures)
+    ∙ words-many _ _ _ (c .before .before .before .before .before .before .before .before .before .if1 .left) (c .before .before .before .before .before .before .before .before .keyword-of .ensures) (c .before .before .before .before .before .before .before .if2 .left) _
+    (c .before .before .before .first-word2 .ensures ∙ ap firstWord (c .before .before .before .before .after-words .ensures ∙ ap (λ (k : ℕ). afterWords k (c .before .before .before .before .before .before .after-word .result .now)) (c .before .before .before .before .before .most-values .ensures)))
+    (c .before .before .if3 .taken)
+    ∙ words-are _ _ _ _ (c .before .before .before .before .before .before .before .before .before .before .before .up-to .ensures) (c .before .before .before .before .before .before .before .before .before .before .first-word .ensures) (c .before .before .before .before .before .before .after-word .ensures)
 
 read-values-requires : tie.Need-read-values-requires
 read-values-requires c κs = search needs
@@ -78,6 +82,7 @@ read-line-spec =
     most-values-requires
     after-words-requires
     first-word-requires-2
+    other-values-requires
     malformed-requires-2
     returns-3
     read-values-requires

@@ -65,19 +65,24 @@ unfolding withCondition
 returns-8 c =
     rw (ne-eqb _ _ (c .before .before .before .before .before .before .before .before .before .if1 .left), ne-eqb _ _ (c .before .before .before .before .before .before .before .before .if2 .left), ne-eqb _ _ (c .before .before .before .before .before .before .before .if3 .left), ne-eqb _ _ (c .before .before .before .before .before .before .if4 .left), ne-eqb _ _ (c .before .before .before .before .before .if5 .left), ne-eqb _ _ (c .before .before .before .before .if6 .left), ne-eqb _ _ (c .before .before .before .if7 .left), le-leb _ _ (six-up _ (c .before .before .before .before .before .before .before .before .before .if1 .left) (c .before .before .before .before .before .before .before .before .if2 .left) (c .before .before .before .before .before .before .before .if3 .left) (c .before .before .before .before .before .before .if4 .left) (c .before .before .before .before .before .if5 .left) (c .before .before .before .before .if6 .left)), lt-ltb _ _ (c .before .if8 .taken), lt-leb _ _ (body-small _ (c .before .if8 .taken) .0))
 
-sub-place : tie.Need-sub-place
-sub-place c = true-up _ (c .before .before .if7 .left) (c .if8 .left)
-
-mul-true-arcs : tie.Need-mul-true-arcs
-mul-true-arcs c = place-small _ (c .before .before .before .before .before .before .before .before .before .before .pre) .1
-
-array-set-from-true-arcs : tie.Need-array-set-from-true-arcs
-array-set-from-true-arcs c = place-small _ (c .before .before .before .before .before .before .before .before .before .before .pre) .0
-
 returns-9 : tie.Need-returns-9
 unfolding withCondition
 returns-9 c =
-    rw (ne-eqb _ _ (c .before .before .before .before .before .before .before .before .before .if1 .left), ne-eqb _ _ (c .before .before .before .before .before .before .before .before .if2 .left), ne-eqb _ _ (c .before .before .before .before .before .before .before .if3 .left), ne-eqb _ _ (c .before .before .before .before .before .before .if4 .left), ne-eqb _ _ (c .before .before .before .before .before .if5 .left), ne-eqb _ _ (c .before .before .before .before .if6 .left), ne-eqb _ _ (c .before .before .before .if7 .left), le-leb _ _ (six-up _ (c .before .before .before .before .before .before .before .before .before .if1 .left) (c .before .before .before .before .before .before .before .before .if2 .left) (c .before .before .before .before .before .before .before .if3 .left) (c .before .before .before .before .before .before .if4 .left) (c .before .before .before .before .before .if5 .left) (c .before .before .before .before .if6 .left)), le-ltb _ _ (c .before .if8 .left), le-leb _ _ (true-up _ (c .before .before .before .if7 .left) (c .before .if8 .left)))
+    rw (ne-eqb _ _ (c .before .before .before .before .before .before .before .before .before .if1 .left), ne-eqb _ _ (c .before .before .before .before .before .before .before .before .if2 .left), ne-eqb _ _ (c .before .before .before .before .before .before .before .if3 .left), ne-eqb _ _ (c .before .before .before .before .before .before .if4 .left), ne-eqb _ _ (c .before .before .before .before .before .if5 .left), ne-eqb _ _ (c .before .before .before .before .if6 .left), ne-eqb _ _ (c .before .before .before .if7 .left), le-leb _ _ (six-up _ (c .before .before .before .before .before .before .before .before .before .if1 .left) (c .before .before .before .before .before .before .before .before .if2 .left) (c .before .before .before .before .before .before .before .if3 .left) (c .before .before .before .before .before .before .if4 .left) (c .before .before .before .before .before .if5 .left) (c .before .before .before .before .if6 .left)), le-ltb _ _ (c .before .if8 .left), le-leb _ _ (true-up _ (c .before .before .before .if7 .left) (c .before .if8 .left)), le-ltb _ _ (c .if9 .taken))
+
+sub-place : tie.Need-sub-place
+sub-place c = true-up _ (c .before .before .before .if7 .left) (c .before .if8 .left)
+
+mul-true-arcs : tie.Need-mul-true-arcs
+mul-true-arcs c = place-small _ (c .before .if9 .left) .1
+
+array-set-from-true-arcs : tie.Need-array-set-from-true-arcs
+array-set-from-true-arcs c = place-small _ (c .before .if9 .left) .0
+
+returns-10 : tie.Need-returns-10
+unfolding withCondition
+returns-10 c =
+    rw (ne-eqb _ _ (c .before .before .before .before .before .before .before .before .before .before .if1 .left), ne-eqb _ _ (c .before .before .before .before .before .before .before .before .before .if2 .left), ne-eqb _ _ (c .before .before .before .before .before .before .before .before .if3 .left), ne-eqb _ _ (c .before .before .before .before .before .before .before .if4 .left), ne-eqb _ _ (c .before .before .before .before .before .before .if5 .left), ne-eqb _ _ (c .before .before .before .before .before .if6 .left), ne-eqb _ _ (c .before .before .before .before .if7 .left), le-leb _ _ (six-up _ (c .before .before .before .before .before .before .before .before .before .before .if1 .left) (c .before .before .before .before .before .before .before .before .before .if2 .left) (c .before .before .before .before .before .before .before .before .if3 .left) (c .before .before .before .before .before .before .before .if4 .left) (c .before .before .before .before .before .before .if5 .left) (c .before .before .before .before .before .if6 .left)), le-ltb _ _ (c .before .before .if8 .left), le-leb _ _ (true-up _ (c .before .before .before .before .if7 .left) (c .before .before .if8 .left)), lt-ltb _ _ (c .before .if9 .left))
 
 pub with-condition-spec : {M : Type 1} → statement M
 with-condition-spec =
@@ -94,7 +99,8 @@ with-condition-spec =
     mul-arcs
     array-set-from-arcs
     returns-8
+    returns-9
     sub-place
     mul-true-arcs
     array-set-from-true-arcs
-    returns-9)
+    returns-10)

@@ -37,9 +37,12 @@ first-fault-requires-2 c κs = search needs
 with-condition-requires : tie.Need-with-condition-requires
 with-condition-requires c κs = omega arith
 
+with-print-requires : tie.Need-with-print-requires
+with-print-requires c κs = search needs
+
 returns-3 : tie.Need-returns-3
 unfolding withLine
-returns-3 c = rw (lt-leb _ _ (c .before .before .before .before .if1 .left), c .before .before .if2 .left, c .before .first-fault2 .ensures, c .with-condition .ensures)
+returns-3 c = rw (lt-leb _ _ (c .before .before .before .before .before .if1 .left), c .before .before .before .if2 .left, c .before .before .first-fault2 .ensures, c .before .with-condition .ensures, c .with-print .ensures)
 
 pub with-line-spec : {M : Type 1} → statement M
 with-line-spec =
@@ -54,4 +57,5 @@ with-line-spec =
     array-write-present
     first-fault-requires-2
     with-condition-requires
+    with-print-requires
     returns-3)

@@ -8,6 +8,9 @@ use borrow.Author.Needs.{needs}
 use Rattle.question.proofs.read.Statement.{statement}
 use Rattle.question.proofs.read.Tie as tie
 
+unmarked-requires : tie.Need-unmarked-requires
+unmarked-requires c κs = search needs
+
 first-line-requires : tie.Need-first-line-requires
 first-line-requires c κs = search needs
 
@@ -22,8 +25,8 @@ together-requires c κs = omega (arith, ap (λ (p : PageRead). p .line) (c .read
 
 returns : tie.Need-returns
 unfolding questionRead
-returns c = rw (c .together .ensures, c .before .read .ensures, c .before .before .after .ensures, c .before .before .before .first-line .ensures)
+returns c = rw (c .together .ensures, c .before .read .ensures, c .before .before .after .ensures, c .before .before .before .first-line .ensures, c .before .before .before .before .unmarked .ensures)
 
 pub read-spec : {M : Type 1} → statement M
 read-spec =
-    tie.close (tie.spec first-line-requires after-requires read-requires together-requires returns)
+    tie.close (tie.spec unmarked-requires first-line-requires after-requires read-requires together-requires returns)

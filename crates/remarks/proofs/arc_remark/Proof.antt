@@ -1,70 +1,54 @@
--- `arc_remark` meets its contract: by the cases of an arc (Cases). Assumes nothing.
-use mathlib.Core.Path.{sym, _∙_}
+-- `arc_remark` meets its contract: an arc by its end, or by its width (Cases). Assumes nothing.
 use borrow.Author.Needs.{needs}
-use Rattle.remarks.proofs.Cases.{arc-seconds, arc-width, arc-none}
-use Rattle.remarks.proofs.Fitting.{degrees-true, end-true}
+use Rattle.remarks.proofs.Cases.{arc-by-end, arc-by-width}
 use Rattle.remarks.proofs.arc_remark.Statement.{statement}
 use Rattle.remarks.proofs.arc_remark.Tie as tie
 
-read-decimal-requires : tie.Need-read-decimal-requires
-read-decimal-requires c κs = search needs
+first-word-requires : tie.Need-first-word-requires
+first-word-requires c κs = search needs
 
-read-decimal-requires-2 : tie.Need-read-decimal-requires-2
-read-decimal-requires-2 c κs = search needs
+after-word-requires : tie.Need-after-word-requires
+after-word-requires c κs = search needs
 
-likely-degrees-requires : tie.Need-likely-degrees-requires
-likely-degrees-requires c κs = search needs
+first-word-requires-2 : tie.Need-first-word-requires-2
+first-word-requires-2 c κs = search needs
 
-seconds-remark-requires : tie.Need-seconds-remark-requires
-seconds-remark-requires c κs =
-    let h = degrees-true _ _ (sym (c .before .likely-degrees .ensures) ∙ c .if1 .taken) in
-    (c .before .before .before .before .before .before .before .pre, h .0, h .1)
+is-to-requires : tie.Need-is-to-requires
+is-to-requires c κs = search needs
+
+after-words-requires : tie.Need-after-words-requires
+after-words-requires c κs = search needs
+
+first-word-requires-3 : tie.Need-first-word-requires-3
+first-word-requires-3 c κs = search needs
+
+end-remark-requires : tie.Need-end-remark-requires
+end-remark-requires c κs = search needs
 
 returns : tie.Need-returns
-returns c = arc-seconds _ _ _ _ _ _ (c .before .before .before .before .read-decimal .ensures) (c .before .before .before .read-decimal2 .ensures) (sym (c .before .before .likely-degrees .ensures) ∙ c .before .if1 .taken) (c .seconds-remark .ensures)
+returns c =
+    let tested = c .before .before .before .before in
+    arc-by-end _ _ _ _ _ _ (tested .before .before .before .first-word .ensures) (tested .before .before .after-word .ensures) (tested .before .first-word2 .ensures) _ (tested .is-to .ensures) (c .before .before .before .if1 .taken) _ _ (c .before .before .after-words .ensures) (c .before .first-word3 .ensures) (c .end-remark .ensures)
 
-angle-requires : tie.Need-angle-requires
-angle-requires c κs = search needs
-
-angle-requires-2 : tie.Need-angle-requires-2
-angle-requires-2 c κs = search needs
-
-likely-end-requires : tie.Need-likely-end-requires
-likely-end-requires c κs = search needs
-
-width-remark-requires : tie.Need-width-remark-requires
-width-remark-requires c κs =
-    let h = end-true _ _ (sym (c .before .likely-end .ensures) ∙ c .if2 .taken) in
-    (c .before .before .before .before .before .before .before .before .before .before .before .pre, h .0, h .1)
+plain-remark-requires : tie.Need-plain-remark-requires
+plain-remark-requires c κs = search needs
 
 returns-2 : tie.Need-returns-2
 returns-2 c =
     let tested = c .before .before in
-    arc-width _ _ _ _ _ _ (tested .before .before .before .before .before .before .read-decimal .ensures) (tested .before .before .before .before .before .read-decimal2 .ensures) (sym (tested .before .before .before .before .likely-degrees .ensures) ∙ tested .before .before .before .if1 .left)
-    _ _ (tested .before .before .angle .ensures) (tested .before .angle2 .ensures) (sym (tested .likely-end .ensures) ∙ c .before .if2 .taken) (c .width-remark .ensures)
-
-empty-requires : tie.Need-empty-requires
-empty-requires c κs = search needs
-
-returns-3 : tie.Need-returns-3
-returns-3 c =
-    let tested = c .before .before in
-    arc-none _ _ _ _ _ _ (tested .before .before .before .before .before .before .read-decimal .ensures) (tested .before .before .before .before .before .read-decimal2 .ensures) (sym (tested .before .before .before .before .likely-degrees .ensures) ∙ tested .before .before .before .if1 .left)
-    _ _ (tested .before .before .angle .ensures) (tested .before .angle2 .ensures) (sym (tested .likely-end .ensures) ∙ c .before .if2 .left) (c .empty .ensures)
+    arc-by-width _ _ _ _ _ _ (tested .before .before .before .first-word .ensures) (tested .before .before .after-word .ensures) (tested .before .first-word2 .ensures) _ (tested .is-to .ensures) (c .before .if1 .left) (c .plain-remark .ensures)
 
 pub arc-remark-spec : {M : Type 1} → statement M
 arc-remark-spec =
     tie.close
     (tie.spec
-    read-decimal-requires
-    read-decimal-requires-2
-    likely-degrees-requires
-    seconds-remark-requires
+    first-word-requires
+    after-word-requires
+    first-word-requires-2
+    is-to-requires
+    after-words-requires
+    first-word-requires-3
+    end-remark-requires
     returns
-    angle-requires
-    angle-requires-2
-    likely-end-requires
-    width-remark-requires
-    returns-2
-    empty-requires
-    returns-3)
+    plain-remark-requires
+    returns-2)

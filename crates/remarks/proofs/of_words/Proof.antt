@@ -29,8 +29,7 @@ empty-requires c κs = search needs
 
 returns : tie.Need-returns
 returns c =
-    words-span _ _ _ _ (c .before .before .before .before .before .before .keyword-of .ensures) _ _ _ (c .before .before .before .before .before .first-word .ensures) (c .before .before .before .before .after-word .ensures) (c .before .before .before .first-word2 .ensures)
-    (c .before .before .if1 .taken) (c .before .span-remark .ensures) (c .empty .ensures)
+    words-span _ _ _ _ (c .before .before .before .before .before .before .keyword-of .ensures) _ _ _ (c .before .before .before .before .first-word .ensures) (c .before .before .before .after-word .ensures) (c .before .before .first-word2 .ensures) (c .before .before .before .before .before .if1 .taken) (c .before .span-remark .ensures) (c .empty .ensures)
 
 has-arcs-requires : tie.Need-has-arcs-requires
 has-arcs-requires c κs = search needs
@@ -43,34 +42,25 @@ empty-requires-3 c κs = search needs
 
 returns-2 : tie.Need-returns-2
 returns-2 c =
-    words-none _ _ _ _ (c .before .before .before .before .before .before .before .before .keyword-of .ensures) (c .before .before .before .before .if1 .left) (sym (c .before .before .before .has-arcs .ensures) ∙ not-true _ (c .before .before .if2 .taken)) (c .before .empty2 .ensures) (c .empty3 .ensures)
+    words-none _ _ _ _ (c .before .before .before .before .before .keyword-of .ensures) (c .before .before .before .before .if1 .left) (sym (c .before .before .before .has-arcs .ensures) ∙ not-true _ (c .before .before .if2 .taken)) (c .before .empty2 .ensures) (c .empty3 .ensures)
 
-after-word-requires-2 : tie.Need-after-word-requires-2
-after-word-requires-2 c κs = search needs
+arc-words-requires : tie.Need-arc-words-requires
+arc-words-requires c κs = search needs
+
+after-words-requires : tie.Need-after-words-requires
+after-words-requires c κs = search needs
 
 arc-remark-requires : tie.Need-arc-remark-requires
-arc-remark-requires c κs = keyword-short (c .before .before .before .before .before .before .before .before .before .before .args .name .now) (omega (arith, c .before .before .before .before .before .before .before .keyword-of .ensures, arcs-keyword _ (sym (c .before .before .has-arcs .ensures) ∙ not-false _ (c .before .if2 .left))))
-
-first-word-requires-3 : tie.Need-first-word-requires-3
-first-word-requires-3 c κs = search needs
-
-after-word-requires-3 : tie.Need-after-word-requires-3
-after-word-requires-3 c κs = search needs
-
-first-word-requires-4 : tie.Need-first-word-requires-4
-first-word-requires-4 c κs = search needs
+arc-remark-requires c κs =
+    keyword-short (c .before .before .before .before .before .before .before .before .args .name .now) (omega (arith, c .before .before .before .before .before .keyword-of .ensures, arcs-keyword _ (sym (c .before .before .before .has-arcs .ensures) ∙ not-false _ (c .before .before .if2 .left))))
 
 arc-remark-requires-2 : tie.Need-arc-remark-requires-2
 arc-remark-requires-2 c κs =
-    let arcs = c .before .before .before .before in
-    keyword-short (arcs .before .before .before .before .before .before .before .before .before .before .args .name .now) (omega (arith, arcs .before .before .before .before .before .before .before .keyword-of .ensures, arcs-keyword _ (sym (arcs .before .before .has-arcs .ensures) ∙ not-false _ (arcs .before .if2 .left))))
+    keyword-short (c .before .before .before .before .before .before .before .before .before .args .name .now) (omega (arith, c .before .before .before .before .before .before .keyword-of .ensures, arcs-keyword _ (sym (c .before .before .before .before .has-arcs .ensures) ∙ not-false _ (c .before .before .before .if2 .left))))
 
 returns-3 : tie.Need-returns-3
 returns-3 c =
-    let arcs = c .before .before .before .before .before in
-    words-arcs _ _ _ _ (arcs .before .before .before .before .before .before .before .keyword-of .ensures) _ _ _ (arcs .before .before .before .before .before .before .first-word .ensures) (arcs .before .before .before .before .before .after-word .ensures) (arcs .before .before .before .before .first-word2 .ensures)
-    (arcs .before .before .before .if1 .left) (sym (arcs .before .before .has-arcs .ensures) ∙ not-false _ (arcs .before .if2 .left))
-    _ _ _ _ (arcs .after-word2 .ensures) (c .before .before .before .first-word3 .ensures) (c .before .before .after-word3 .ensures) (c .before .first-word4 .ensures) (c .before .before .before .before .arc-remark .ensures) (c .arc-remark2 .ensures)
+    words-arcs _ _ _ _ (c .before .before .before .before .before .before .before .keyword-of .ensures) (c .before .before .before .before .before .before .if1 .left) (sym (c .before .before .before .before .before .has-arcs .ensures) ∙ not-false _ (c .before .before .before .before .if2 .left)) _ _ (c .before .before .before .arc-words .ensures) (c .before .before .after-words .ensures) (c .before .arc-remark .ensures) (c .arc-remark2 .ensures)
 
 pub of-words-spec : {M : Type 1} → statement M
 of-words-spec =
@@ -87,10 +77,8 @@ of-words-spec =
     empty-requires-2
     empty-requires-3
     returns-2
-    after-word-requires-2
+    arc-words-requires
+    after-words-requires
     arc-remark-requires
-    first-word-requires-3
-    after-word-requires-3
-    first-word-requires-4
     arc-remark-requires-2
     returns-3)

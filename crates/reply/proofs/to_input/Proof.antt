@@ -12,26 +12,32 @@ use Rattle.reply.proofs.to_input.Tie as tie
 refusal-line-requires : tie.Need-refusal-line-requires
 refusal-line-requires c κs = search needs
 
+put-front-requires : tie.Need-put-front-requires
+put-front-requires c κs = search needs
+
 unreadable-page-requires : tie.Need-unreadable-page-requires
 unreadable-page-requires c κs = search needs
 
 returns : tie.Need-returns
-returns c = unread-reply _ (c .before .before .if1 .taken) (c .before .refusal-line .ensures) (c .unreadable-page .ensures)
+returns c =
+    let put = c .before in
+    unread-reply _ _ _ _ _ (put .before .before .before .if1 .taken) (rw (put .before .before .refusal-line .ensures .whole) at (put .put-front .ensures)) (c .unreadable-page .ensures)
 
 read-requires : tie.Need-read-requires
 read-requires c κs = search needs
 
 to-question-requires : tie.Need-to-question-requires
-to-question-requires c κs = omega (arith, ap (λ (q : Question). q .line) (c .read .ensures), line-at-fault (c .before .before .before .args .input .now))
+to-question-requires c κs = omega (arith, ap (λ (q : Question). q .line) (c .before .read .ensures), line-at-fault (c .before .before .before .before .args .input .now))
 
 returns-2 : tie.Need-returns-2
-returns-2 c = read-reply _ (omega arith) (c .before .read .ensures) (c .to-question .ensures)
+returns-2 c = read-reply _ _ (omega arith) (c .before .before .read .ensures) (c .to-question .ensures)
 
 pub to-input-spec : {M : Type 1} → statement M
 to-input-spec =
     tie.close
     (tie.spec
     refusal-line-requires
+    put-front-requires
     unreadable-page-requires
     returns
     read-requires

@@ -4,17 +4,20 @@ use borrow.Author.Needs.{needs}
 use Rattle.reply.proofs.to_question.Statement.{statement}
 use Rattle.reply.proofs.to_question.Tie as tie
 
-line-requires : tie.Need-line-requires
-line-requires c κs = search needs
+put-line-requires : tie.Need-put-line-requires
+put-line-requires c κs = search needs
 
 empty-requires : tie.Need-empty-requires
 empty-requires c κs = search needs
 
 returns : tie.Need-returns
-returns c = accepted-reply _ (c .before .before .before .if1 .taken) (c .before .line .ensures) (c .empty .ensures)
+returns c = accepted-reply _ _ _ _ _ (c .before .before .before .before .if1 .taken) (c .before .put-line .ensures) (c .empty .ensures)
 
 refusal-line-requires : tie.Need-refusal-line-requires
 refusal-line-requires c κs = search needs
+
+put-front-requires : tie.Need-put-front-requires
+put-front-requires c κs = search needs
 
 cast-line : tie.Need-cast-line
 cast-line c = search needs
@@ -23,16 +26,19 @@ page-fault-requires : tie.Need-page-fault-requires
 page-fault-requires c κs = search needs
 
 returns-2 : tie.Need-returns-2
-returns-2 c = refused-reply _ (c .before .before .before .if1 .left) (c .before .before .refusal-line .ensures) (c .page-fault .ensures)
+returns-2 c =
+    let put = c .before .before in
+    refused-reply _ _ _ _ _ (put .before .before .before .if1 .left) (rw (put .before .before .refusal-line .ensures .whole) at (put .put-front .ensures)) (c .page-fault .ensures)
 
 pub to-question-spec : {M : Type 1} → statement M
 to-question-spec =
     tie.close
     (tie.spec
-    line-requires
+    put-line-requires
     empty-requires
     returns
     refusal-line-requires
+    put-front-requires
     cast-line
     page-fault-requires
     returns-2)

@@ -1,19 +1,18 @@
--- `set_of` meets its contract: `Reading` holds before each word. The measure is the words that may follow. Assumes
+-- `set_of` meets its contract: `Reading` holds before each value. The measure is the values that may follow. Assumes
 -- nothing.
 use mathlib.Core.Path.{ap, _∙_}
 use native.Mathlib.Omega.{arith}
 use lib.ListN.{length}
 use borrow.Author.Needs.{needs}
-use Rattle.values.specs.Values.{withWord}
-use Rattle.values.proofs.Readings.{Reading, reading-start, reading-end, reading-many, reading-refused, reading-next}
+use Rattle.values.proofs.Readings.{Reading, reading-start, reading-end, reading-many, reading-refused, reading-next, with-the-value}
 use Rattle.values.proofs.set_of.Statement.{statement}
 use Rattle.values.proofs.set_of.Tie as tie
 
 abbrev Inv-loop : tie.InvT-loop
-Inv-loop weekdays most text set₀ left₀ rest₀ set left rest = Reading weekdays most text set left rest
+Inv-loop kind most text set₀ left₀ rest₀ set left rest = Reading kind most text set left rest
 
 abbrev μ-loop : tie.MeasureT-loop
-μ-loop weekdays most text set₀ left₀ rest₀ set left rest = left
+μ-loop kind most text set₀ left₀ rest₀ set left rest = left
 
 loop-holds : tie.Need-loop-holds Inv-loop μ-loop
 loop-holds c = reading-start _ _ _ (c .before .pre)
@@ -33,23 +32,33 @@ refused-requires c κs = search needs
 returns-2 : tie.Need-returns-2 Inv-loop μ-loop
 returns-2 c = c .refused .ensures ∙ reading-many _ _ _ _ _ _ (c .before .before .before .before .loop .inv) (λ z. c .before .before .if1 .left (ap length (c .before .before .before .first-word .ensures) ∙ z)) (c .before .if2 .taken)
 
-with-word-requires : tie.Need-with-word-requires Inv-loop μ-loop
-with-word-requires c κs = λ is. omega (arith, c .before .before .before .loop .inv .small is, c .if2 .left)
+read-value-requires : tie.Need-read-value-requires Inv-loop μ-loop
+read-value-requires c κs = search needs
+
+with-value-requires : tie.Need-with-value-requires Inv-loop μ-loop
+with-value-requires c κs = λ is. omega (arith, c .before .before .before .before .loop .inv .small is, c .before .if2 .left)
 
 returns-3 : tie.Need-returns-3 Inv-loop μ-loop
-returns-3 c = reading-refused _ _ _ _ _ _ (c .before .before .before .before .before .before .loop .inv) (λ z. c .before .before .before .before .if1 .left (ap length (c .before .before .before .before .before .first-word .ensures) ∙ z)) (c .before .before .before .if2 .left) _ (c .before .before .with-word .ensures ∙ ap (withWord _ _) (c .before .before .before .before .before .first-word .ensures)) (c .if3 .taken)
+returns-3 c =
+    reading-refused _ _ _ _ _ _ (c .before .before .before .before .before .before .before .loop .inv) (λ z. c .before .before .before .before .before .if1 .left (ap length (c .before .before .before .before .before .before .first-word .ensures) ∙ z)) (c .before .before .before .before .if2 .left) _
+    (with-the-value _ _ _ _ _ (c .before .before .before .read-value .ensures) (c .before .before .with-value .ensures))
+    (c .if3 .taken)
 
 sub-left : tie.Need-sub-left Inv-loop μ-loop
-sub-left c = omega (arith, c .before .before .before .if2 .left)
+sub-left c = omega (arith, c .before .before .before .before .if2 .left)
 
-after-word-requires : tie.Need-after-word-requires Inv-loop μ-loop
-after-word-requires c κs = search needs
+after-words-requires : tie.Need-after-words-requires Inv-loop μ-loop
+after-words-requires c κs = search needs
 
 loop-less : tie.Need-loop-less Inv-loop μ-loop
-loop-less c = omega (arith, c .before .before .before .before .if2 .left)
+loop-less c = omega (arith, c .before .before .before .before .before .if2 .left)
 
 loop-again : tie.Need-loop-again Inv-loop μ-loop
-loop-again c = rw (c .after-word .ensures) (reading-next _ _ _ _ _ _ (c .before .before .before .before .before .before .before .loop .inv) (λ z. c .before .before .before .before .before .if1 .left (ap length (c .before .before .before .before .before .before .first-word .ensures) ∙ z)) (c .before .before .before .before .if2 .left) _ (c .before .before .before .with-word .ensures ∙ ap (withWord _ _) (c .before .before .before .before .before .before .first-word .ensures)) (c .before .if3 .left))
+loop-again c =
+    rw (c .after-words .ensures, c .before .before .before .before .read-value .ensures)
+    (reading-next _ _ _ _ _ _ (c .before .before .before .before .before .before .before .before .loop .inv) (λ z. c .before .before .before .before .before .before .if1 .left (ap length (c .before .before .before .before .before .before .before .first-word .ensures) ∙ z)) (c .before .before .before .before .before .if2 .left) _
+    (with-the-value _ _ _ _ _ (c .before .before .before .before .read-value .ensures) (c .before .before .before .with-value .ensures))
+    (c .before .if3 .left))
 
 pub set-of-spec : {M : Type 1} → statement M
 set-of-spec =
@@ -63,9 +72,10 @@ set-of-spec =
     returns
     refused-requires
     returns-2
-    with-word-requires
+    read-value-requires
+    with-value-requires
     returns-3
     sub-left
-    after-word-requires
+    after-words-requires
     loop-less
     loop-again)
