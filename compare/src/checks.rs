@@ -4,6 +4,9 @@ use std::fmt::Debug;
 use std::time::Instant;
 
 pub struct Checks {
+    /// The parts to run, all where none is named; and those that were.
+    named: Vec<String>,
+    run: Vec<&'static str>,
     part: &'static str,
     begun: Instant,
     in_part: u64,
@@ -11,8 +14,10 @@ pub struct Checks {
 }
 
 impl Checks {
-    pub fn new() -> Checks {
+    pub fn new(named: Vec<String>) -> Checks {
         Checks {
+            named,
+            run: Vec::new(),
             part: "",
             begun: Instant::now(),
             in_part: 0,
@@ -20,12 +25,25 @@ impl Checks {
         }
     }
 
+    /// All checks, of parts that there are.
     pub fn total(&self) -> u64 {
+        if let Some(named) = self
+            .named
+            .iter()
+            .find(|named| !self.run.contains(&&named[..]))
+        {
+            println!("compare: there is no part {named:?}");
+            std::process::exit(1);
+        }
         self.total
     }
 
     /// Runs a part and prints its number of checks.
     pub fn part(&mut self, name: &'static str, run: impl FnOnce(&mut Checks)) {
+        if !self.named.is_empty() && !self.named.iter().any(|named| named == name) {
+            return;
+        }
+        self.run.push(name);
         self.part = name;
         self.begun = Instant::now();
         self.in_part = 0;

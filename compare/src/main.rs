@@ -12,7 +12,7 @@ use reference::almanac::Almanac;
 
 fn main() {
     let almanac = Almanac::from_epoch();
-    let mut checks = Checks::new();
+    let mut checks = Checks::new(std::env::args().skip(1).collect());
     checks.part("the paper's cases", |checks| {
         runs::worked::run(checks, &almanac)
     });
@@ -93,6 +93,15 @@ fn main() {
     checks.part("days and pages", |checks| runs::why::run(checks, &almanac));
     checks.part("remarks on pages", |checks| {
         runs::remarks::run(checks, &almanac)
+    });
+    checks.part("names by the documents", |checks| {
+        runs::names::run(checks, &almanac)
+    });
+    checks.part("names in pages", |checks| {
+        runs::named_pages::run(checks, &almanac)
+    });
+    checks.part("lists by names", |checks| {
+        runs::listings::run(checks, &almanac)
     });
     println!("compare: {} checks, 0 differences", checks.total());
 }

@@ -23,13 +23,18 @@ pub type Lines = Vec<Answer<String>>;
 
 const HEADING: &str = "day date weekday tithi nakshatra yoga karana";
 
-/// The two lines before the days'. The first names edition 2, and edition 1 by saying nothing.
-pub fn heading(edition: Edition, length: u32, looked: u32) -> String {
+/// The first line, which names edition 2, and edition 1 by saying nothing.
+pub fn counted(edition: Edition, length: u32, looked: u32) -> String {
     let named = match edition {
         Edition::First => "",
         Edition::Second => " edition 2",
     };
-    format!("found {length} looked {looked}{named}\n{HEADING}\n")
+    format!("found {length} looked {looked}{named}\n")
+}
+
+/// The two lines before the days'.
+pub fn heading(edition: Edition, length: u32, looked: u32) -> String {
+    format!("{}{HEADING}\n", counted(edition, length, looked))
 }
 
 /// The date of a day of the table.

@@ -3,8 +3,10 @@
 //! the two programs that turn the one into the other.
 
 use std::collections::HashMap;
+use std::sync::OnceLock;
 
 use super::civil::{gregorian_leap, last_of_month, Date};
+use super::listing::in_digits;
 use super::page::{letters, Fault, Printed};
 use super::refusal::{Answer, LIST_TOO_SHORT, NO_SUCH_DATE, OTHER_FORM, OUT_OF_RANGE};
 
@@ -41,7 +43,7 @@ impl Form {
                 Fault::new(refusal, "no day of 1 to 6 digits with its newline")
             }
             (LIST_TOO_SHORT, _) => Fault::new(refusal, "more than 4096 lines"),
-            _ => Fault::of_values(refusal),
+            _ => Fault::of_day(refusal),
         }
     }
 }
@@ -88,6 +90,12 @@ impl IsoDates {
         IsoDates { dates, number_of }
     }
 
+    /// The same, made once.
+    pub fn of_all_days() -> &'static IsoDates {
+        static DATES: OnceLock<IsoDates> = OnceLock::new();
+        DATES.get_or_init(IsoDates::from_first)
+    }
+
     /// The dates of the table's days, by number.
     pub fn dates(&self) -> &[Date] {
         &self.dates
@@ -122,9 +130,9 @@ impl IsoDates {
 
     /// The line of a day; a number is "printed without leading zeros".
     pub fn line(&self, form: Form, number: u32) -> Answer<String> {
-        let Date { year, month, day } = self.date_of(number)?;
+        let date = self.date_of(number)?;
         Ok(match form {
-            Form::Date => format!("{year:04}-{month:02}-{day:02}\n"),
+            Form::Date => in_digits(date) + "\n",
             Form::Day => format!("{number}\n"),
         })
     }

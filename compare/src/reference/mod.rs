@@ -7,7 +7,8 @@
 //! `catalogue`, what `engraving` prints in `plate`, what `month` prints in `month`, what `why`
 //! reads and prints in `why`, what both say of a page that is likely to be meant otherwise in
 //! `remarks`, what `lunar_month` does in `month_starts`, and what `signs` and `drift` read in
-//! `span`, and print in `signs` and `drift`.
+//! `span`, and print in `signs` and `drift`. P3's names are read out of the document in `names`,
+//! texts in its forms are turned plain in `forms`, and lists are printed by its line `print` in `listing`.
 
 pub mod almanac;
 pub mod almanac_file;
@@ -19,12 +20,15 @@ pub mod drift;
 pub mod edition;
 pub mod exact;
 pub mod float;
+pub mod forms;
 pub mod iso;
 pub mod list;
+pub mod listing;
 pub mod longitudes;
 pub mod month;
 pub mod month_starts;
 pub mod motions;
+pub mod names;
 pub mod page;
 pub mod panchanga;
 pub mod places;

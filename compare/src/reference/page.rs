@@ -2,15 +2,16 @@
 //! condition on each line, and the edition that it names by paper 02's L8, with L9's sets of weekdays
 //! and second arcs and P1's sets of limbs and arcs of true places.
 //!
-//! `#` starts a comment up to the line's end; space, tab and carriage return separate words. A line
-//! without words says nothing. Another line is a word and its values, and no word may stand twice:
+//! `#` starts a comment up to the line's end; space, tab, carriage return and, by P3, a comma separate
+//! words. A line without words says nothing. Another line is a word and its values, and no word may stand twice:
 //!
 //! - `span FROM TO`: day numbers or dates YEAR-MONTH-DAY; without it, all days of the table;
 //! - `edition`: a number; without it, 1;
 //! - `weekday`: one to seven, each a number or its name, none twice;
 //! - `tithi`, `nakshatra`, `yoga`, `karana`: one to thirty numbers, none twice;
 //! - one of the nine bodies, or of the seven true places: an arc's start and width, each in seconds or
-//!   as D:M:S, or two arcs'.
+//!   as D:M:S, or two arcs';
+//! - `print names` or `print csv`, by P3: how the days are listed, and no condition.
 //!
 //! It is read here as text, split into lines and words, and a line is asked for its refusal by
 //! searching with what it says alone.
@@ -18,14 +19,14 @@
 use std::collections::BTreeSet;
 
 use super::almanac::Almanac;
-use super::catalogue::{self, WEEKDAYS};
+use super::catalogue::WEEKDAYS;
 use super::civil::Date;
 use super::days::LAST_DAY;
+use super::forms::Forms;
 use super::refusal::{
     Answer, BAD_CONDITION, BAD_INPUT, LAST_BEFORE_FIRST, NO_SUCH_DATE, NO_SUCH_EDITION,
     OUT_OF_RANGE,
 };
-use super::remarks::remarks;
 use super::search::{set_of, Arc, Arcs, Query, WEEKDAY};
 
 /// A page of so many bytes, or more, is refused as a whole.
@@ -64,23 +65,24 @@ pub const BODIES: [&str; 16] = [
     "true_saturn",
 ];
 
+/// The words of lines that are no conditions.
+pub const OTHERS: [&str; 3] = ["span", "edition", "print"];
+
 const NO_SUCH_WORD: &str = "no line begins with this word";
-pub const OTHER_VALUES: &str = "a value is missing, of another form, or one too many";
-const TOO_MANY_VALUES: &str = "more values than any word has";
 const STANDS_ALREADY: &str = "this word stands already";
-const NO_NEWLINE: &str = "the last line has no newline";
+const NO_NEWLINE: &str = "the last line has no newline; end it with the Enter key";
 
 /// A refusal, and each reason for it in docs/find.md that is true of the line.
 pub struct Fault {
     refusal: u32,
-    reasons: Vec<&'static str>,
+    reasons: Vec<String>,
 }
 
 impl Fault {
-    pub fn new(refusal: u32, reason: &'static str) -> Fault {
+    pub fn new(refusal: u32, reason: impl Into<String>) -> Fault {
         Fault {
             refusal,
-            reasons: vec![reason],
+            reasons: vec![reason.into()],
         }
     }
 
@@ -88,9 +90,17 @@ impl Fault {
         self.refusal
     }
 
-    /// Of a line of the right form: its refusal says the reason.
-    pub fn of_values(refusal: u32) -> Fault {
+    /// Of a day in the right form: its refusal says the reason.
+    pub fn of_day(refusal: u32) -> Fault {
         Fault::new(refusal, reason(refusal))
+    }
+
+    /// Of a line of the right form: its refusal says the reason, and of a value out of range its word.
+    fn of_values(word: &str, refusal: u32) -> Fault {
+        match refusal {
+            BAD_CONDITION => Fault::new(refusal, takes(word)),
+            _ => Fault::of_day(refusal),
+        }
     }
 }
 
@@ -99,7 +109,7 @@ pub enum Complaint {
     /// Just this, of an input that is accepted.
     Remarks(String),
     /// A line about the line of this number, counted from 1, that gives one of these reasons.
-    OfLine(usize, Vec<&'static str>),
+    OfLine(usize, Vec<String>),
     /// A line about the page as a whole.
     OfPage,
 }
@@ -117,11 +127,27 @@ pub enum End {
     Date(Date),
 }
 
+/// How the days that are found are listed (P3).
+#[derive(Clone, Copy, PartialEq, Eq, Debug)]
+pub enum Listing {
+    Numbers,
+    Names,
+    Csv,
+}
+
+/// What an accepted page asks for.
+#[derive(Debug)]
+pub struct Page {
+    pub query: Query,
+    pub listing: Listing,
+}
+
 /// What a line of the right form says.
 #[derive(Clone, Copy)]
 enum Said {
     Span(End, End),
     Edition(u32),
+    Print(Listing),
     /// Which set, and its number.
     Set(usize, u32),
     Arcs(usize, Arcs),
@@ -166,12 +192,12 @@ fn each_once(numbers: &[u32], known: u32) -> bool {
 
 /// One to seven weekdays, or one to thirty numbers.
 fn set_in(set: usize, values: &[&str]) -> Option<u32> {
-    let (known, value): (u32, fn(&str) -> Option<u32>) = match set {
-        WEEKDAY => (7, weekday),
-        _ => (31, number),
+    let (most, known, value): (usize, u32, fn(&str) -> Option<u32>) = match set {
+        WEEKDAY => (7, 7, weekday),
+        _ => (30, 31, number),
     };
     let numbers: Option<Vec<u32>> = values.iter().map(|word| value(word)).collect();
-    let in_number = (1..=most_values(SETS[set])).contains(&values.len());
+    let in_number = (1..=most).contains(&values.len());
     let numbers = numbers.filter(|numbers| in_number && each_once(numbers, known))?;
     Some(set_of(&numbers))
 }
@@ -214,7 +240,7 @@ fn set(word: &str) -> Option<usize> {
 
 pub fn words(line: &str) -> Vec<&str> {
     let before_comment = line.split('#').next().unwrap_or("");
-    let pieces = before_comment.split([' ', '\t', '\r']);
+    let pieces = before_comment.split([' ', '\t', '\r', ',']);
     pieces.filter(|word| !word.is_empty()).collect()
 }
 
@@ -223,24 +249,15 @@ fn said_by(word: &str, values: &[&str]) -> Option<Said> {
     Some(match (word, values, set(word)) {
         ("span", [from, to], _) => Said::Span(end(from)?, end(to)?),
         ("edition", [value], _) => Said::Edition(number(value)?),
+        ("print", ["names"], _) => Said::Print(Listing::Names),
+        ("print", ["csv"], _) => Said::Print(Listing::Csv),
         (_, _, Some(set)) => Said::Set(set, set_in(set, values)?),
         _ => Said::Arcs(body(word)?, arcs(values)?),
     })
 }
 
-/// More values than these are too many, whatever they are: "more than seven values of a weekday, more
-/// than four of a body, and more than two of any other word", but thirty of P1's sets.
-fn most_values(word: &str) -> usize {
-    match set(word) {
-        Some(WEEKDAY) => 7,
-        Some(_) => 30,
-        None if body(word).is_some() => 4,
-        None => 2,
-    }
-}
-
 fn is_word(word: &str) -> bool {
-    ["span", "edition"].contains(&word) || set(word).is_some() || body(word).is_some()
+    OTHERS.contains(&word) || set(word).is_some() || body(word).is_some()
 }
 
 fn gravity(refusal: u32) -> usize {
@@ -258,9 +275,20 @@ impl End {
     }
 }
 
+impl Page {
+    /// Every day by its numbers.
+    fn empty() -> Page {
+        Page {
+            query: Query::without_conditions(0, LAST_DAY),
+            listing: Listing::Numbers,
+        }
+    }
+}
+
 impl Said {
     /// Refused with 1 or 2 for a span's dates; of two refusals the graver counts.
-    fn put_into(self, query: &mut Query, almanac: &Almanac) -> Answer<()> {
+    fn put_into(self, page: &mut Page, almanac: &Almanac) -> Answer<()> {
+        let query = &mut page.query;
         match self {
             Said::Span(from, to) => {
                 let ends = [from.day(almanac), to.day(almanac)];
@@ -271,6 +299,7 @@ impl Said {
                 [query.first, query.last] = [ends[0]?, ends[1]?];
             }
             Said::Edition(value) => query.edition = value,
+            Said::Print(listing) => page.listing = listing,
             Said::Set(at, set) => query.sets[at] = Some(set),
             Said::Arcs(body, arcs) => query.arcs[body] = arcs,
         }
@@ -279,38 +308,61 @@ impl Said {
 
     /// The refusal of a line that stands alone: 14, 1, 2, 5 or 6.
     fn well_formed(self, almanac: &Almanac) -> Answer<()> {
-        let mut alone = Query::without_conditions(0, LAST_DAY);
+        let mut alone = Page::empty();
         self.put_into(&mut alone, almanac)?;
-        alone.well_formed().map(drop)
+        alone.query.well_formed().map(drop)
     }
 }
 
-/// The reason for a refusal other than 3.
+/// The reason for a refusal other than 3 and 6.
 fn reason(refusal: u32) -> &'static str {
     match refusal {
         NO_SUCH_EDITION => "an edition other than 1 and 2",
         NO_SUCH_DATE => "there is no such date",
         OUT_OF_RANGE => "a day outside 0 to 401599",
         LAST_BEFORE_FIRST => "the last day is before the first",
-        BAD_CONDITION => "a value is out of range",
-        _ => unreachable!("3 has reasons of its own"),
+        _ => unreachable!("3 and 6 name the line's word"),
     }
 }
 
-/// The reasons for refusing a line with 3, if there are any. Where its values are too many they aren't
-/// read. `stood` are the words of the lines before it.
+/// P3: "a message names the word and what it takes", in the words of docs/find.md.
+fn takes(word: &str) -> String {
+    let names = &Forms::of_document().names;
+    let list = |list: &str| {
+        let [first, last] = names.ends(list);
+        let [from, to] = [first, last].map(|name| &name.spellings[0]);
+        (
+            format!("{from} to {to}"),
+            format!("{} to {}", first.number, last.number),
+        )
+    };
+    let what = match (word, set(word).map(|_| list(word))) {
+        ("span", _) => "two days, each a date as 1612-5-14 or a number".to_string(),
+        ("edition", _) => "1 or 2".to_string(),
+        ("print", _) => "names or csv".to_string(),
+        ("weekday", Some((names, numbers))) => format!("one to seven of {names} or {numbers}"),
+        ("tithi", Some((names, numbers))) => {
+            format!("one to thirty of {names}, of shukla or krishna with 1 to 15, or of {numbers}")
+        }
+        (_, Some((names, numbers))) => format!("one or more of {names} or {numbers}"),
+        _ => format!(
+            "one or two arcs: a start and a width, a start `to` an end, or a sign of {}",
+            list("sign").0
+        ),
+    };
+    format!("{word} takes {what}")
+}
+
+/// The reasons for refusing a line with 3, if there are any. `stood` are the words of the lines before it.
 fn bad_input(word: &str, values: &[&str], stood: &BTreeSet<&str>) -> Option<Fault> {
     let mut reasons = Vec::new();
     if !is_word(word) {
-        reasons.push(NO_SUCH_WORD);
-    }
-    if values.len() > most_values(word) {
-        reasons.push(TOO_MANY_VALUES);
-    } else if is_word(word) && said_by(word, values).is_none() {
-        reasons.push(OTHER_VALUES);
+        reasons.push(NO_SUCH_WORD.to_string());
+    } else if said_by(word, values).is_none() {
+        reasons.push(takes(word));
     }
     if stood.contains(word) {
-        reasons.push(STANDS_ALREADY);
+        reasons.push(STANDS_ALREADY.to_string());
     }
     let refusal = BAD_INPUT;
     (!reasons.is_empty()).then_some(Fault { refusal, reasons })
@@ -322,13 +374,13 @@ pub fn without_newline(line: &str) -> Result<&str, Fault> {
     ended.ok_or_else(|| Fault::new(BAD_INPUT, NO_NEWLINE))
 }
 
-/// Adds what a line says to the query, and gives the gravest of its faults, if it has any: the page is
-/// then refused, and the query of no use.
+/// Adds what a line says to the page, and gives the gravest of its faults, if it has any: the page is
+/// then refused.
 fn read_line<'a>(
     almanac: &Almanac,
     line: &'a str,
     stood: &mut BTreeSet<&'a str>,
-    query: &mut Query,
+    page: &mut Page,
 ) -> Result<(), Fault> {
     let line = without_newline(line)?;
     let words = words(line);
@@ -339,8 +391,8 @@ fn read_line<'a>(
     if let Some(said) = said_by(word, values) {
         stood.insert(word);
         let alone = said.well_formed(almanac);
-        if let Err(refusal) = alone.and_then(|()| said.put_into(query, almanac)) {
-            faults.push(Fault::of_values(refusal));
+        if let Err(refusal) = alone.and_then(|()| said.put_into(page, almanac)) {
+            faults.push(Fault::of_values(word, refusal));
         }
     }
     let gravest = faults
@@ -358,17 +410,17 @@ pub fn gravest(faults: impl IntoIterator<Item = FaultAt>) -> Option<FaultAt> {
     faults.into_iter().min_by_key(by_gravity)
 }
 
-/// The query of a page, or the gravest fault of its lines and the first line that has it.
-pub fn read(almanac: &Almanac, text: &str) -> Result<Query, FaultAt> {
-    let mut query = Query::without_conditions(0, LAST_DAY);
+/// What a page without P3's forms asks for, or the gravest fault of its lines and the first line that has it.
+pub fn read(almanac: &Almanac, text: &str) -> Result<Page, FaultAt> {
+    let mut page = Page::empty();
     let mut stood = BTreeSet::new();
     let mut faults = Vec::new();
     for (line, number) in text.split_inclusive('\n').zip(1..) {
-        if let Err(fault) = read_line(almanac, line, &mut stood, &mut query) {
+        if let Err(fault) = read_line(almanac, line, &mut stood, &mut page) {
             faults.push((fault, number));
         }
     }
-    gravest(faults).map_or(Ok(query), Err)
+    gravest(faults).map_or(Ok(page), Err)
 }
 
 impl Printed {
@@ -402,17 +454,5 @@ pub fn letters(page: &[u8]) -> String {
 
 /// All that the program writes for a page.
 pub fn printed(almanac: &Almanac, page: &[u8]) -> Printed {
-    if page.len() >= TOO_LONG {
-        return Printed::too_long();
-    }
-    let page = letters(page);
-    match read(almanac, &page) {
-        Ok(query) => {
-            let found = query.hastened_search(almanac);
-            let found = found.expect("all lines are well-formed");
-            let remarks = remarks(almanac, &page, 1);
-            Printed::accepted(catalogue::text(almanac, &found), remarks)
-        }
-        Err(fault_at) => Printed::at_fault(fault_at),
-    }
+    Forms::of_document().find(almanac, page)
 }

@@ -4,7 +4,7 @@
 //! the two days of `signs`.
 
 use super::almanac::Almanac;
-use super::page::{letters, read, without_newline, words, TOO_LONG};
+use super::page::{letters, read, without_newline, words, Page, TOO_LONG};
 use super::refusal::{Answer, BAD_INPUT};
 use super::search::Query;
 
@@ -30,7 +30,7 @@ fn line_in(input: &[u8]) -> Answer<String> {
 /// The line is read with the page's word before it, as a page.
 fn span_of(almanac: &Almanac, line: &str) -> Answer<Span> {
     match read(almanac, &format!("span {line}")) {
-        Ok(query) => Ok((query.first, query.last)),
+        Ok(Page { query, .. }) => Ok((query.first, query.last)),
         Err((fault, _)) => Err(fault.refusal()),
     }
 }
@@ -40,12 +40,12 @@ pub fn span_in(almanac: &Almanac, input: &[u8]) -> Answer<Span> {
     span_of(almanac, &line_in(input)?)
 }
 
-/// The same where the word may stand behind the two days, and whether it does: the line is then read
-/// without it.
+/// The same where the word may stand behind the two days, by P3 "in any case", and whether it does: the
+/// line is then read without it.
 pub fn span_and_word_in(almanac: &Almanac, input: &[u8], word: &str) -> Answer<(Span, bool)> {
     let line = line_in(input)?;
     match without_newline(&line).map(words).unwrap_or_default()[..] {
-        [first, last, behind] if behind == word => {
+        [first, last, behind] if behind.eq_ignore_ascii_case(word) => {
             let span = span_of(almanac, &format!("{first} {last}\n"))?;
             Ok((span, true))
         }

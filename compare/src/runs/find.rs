@@ -29,7 +29,7 @@ fn compare(checks: &mut Checks, almanac: &Almanac, page: &[u8]) {
 
 /// A page of one line; a line that isn't a span has one before it, so that few days are looked at.
 fn compare_line(checks: &mut Checks, almanac: &Almanac, line: &str) {
-    let span = if line.starts_with("span") {
+    let span = if line.to_lowercase().starts_with("span") {
         ""
     } else {
         "span 1000 1360\n"
@@ -40,7 +40,7 @@ fn compare_line(checks: &mut Checks, almanac: &Almanac, line: &str) {
 /// Each kind of line alone, at its edges and with a fault; and each with a line that names an edition,
 /// behind it or before it: one that there is and one that there isn't.
 fn lines(checks: &mut Checks, almanac: &Almanac) {
-    let sound = [&SPANS[..], &VALUES, &EDITION_LINES].concat();
+    let sound = [&SPANS[..], &VALUES, &EDITION_LINES, &FORMS].concat();
     let refused = [&NO_DATES[..], &DAYS_OUTSIDE, &REVERSED, &BAD_CONDITIONS].concat();
     let other = [&OTHER_FORMS[..], &BAD_EDITIONS].concat();
     let mut lines = [sound, refused, other].concat();
@@ -304,9 +304,8 @@ fn many_matches(checks: &mut Checks, almanac: &Almanac) {
         "true_sun 0 90:0:0\n",
     ];
     for conditions in with_conditions {
-        let query = read(almanac, conditions)
-            .ok()
-            .expect("the page is accepted");
+        let page = read(almanac, conditions).ok();
+        let query = page.expect("the page is accepted").query;
         let matching = query.search(almanac).expect("the query is well-formed");
         let matching = matching.matching;
         for count in [175, 176, 177, 16_383, 16_384, 16_385, 32_769] {

@@ -598,7 +598,7 @@ fn altered(checks: &mut Checks, starts: &MonthStarts, random: &mut Random) {
 const PROGRAM: &str = "target/bin/lunar_month";
 
 /// Lines that are accepted, without their newline.
-const ACCEPTED: [&str; 22] = [
+const ACCEPTED: [&str; 23] = [
     "0",
     "1",
     "33649",
@@ -615,6 +615,7 @@ const ACCEPTED: [&str; 22] = [
     "1582-10-15",
     " 5",
     "5   2   ",
+    "5,2",
     "\t\r 5\t\r2 \t\r",
     "5#",
     "5 2#",
@@ -624,7 +625,7 @@ const ACCEPTED: [&str; 22] = [
 ];
 
 /// Lines that are refused, by their refusal: first in the order 3, 14, 1, 2 counts.
-const REFUSED: [(u32, &str); 42] = [
+const REFUSED: [(u32, &str); 41] = [
     (3, ""),
     (3, " "),
     (3, "#"),
@@ -635,7 +636,6 @@ const REFUSED: [(u32, &str); 42] = [
     (3, "5 2 2"),
     (3, "5 2 x"),
     (3, "401600 3 3"),
-    (3, "5,2"),
     (3, "-1"),
     (3, "+5"),
     (3, "5 -1"),

@@ -83,7 +83,8 @@ fn compare_complaint(
             let came: String = error.chars().take(start.len()).collect();
             checks.same(about, &input, start, came);
             let told = reasons.iter().find(|true_one| **true_one == reason);
-            checks.same("its reason", &input, *told.unwrap_or(&reasons[0]), reason);
+            let told = told.unwrap_or(&reasons[0]);
+            checks.same("its reason", &input, &told[..], reason);
         }
         Complaint::OfPage => checks.same(about, &input, false, error.starts_with("line ")),
     }
@@ -91,11 +92,13 @@ fn compare_complaint(
     checks.same("its standard error is one line", input, true, one_line);
 }
 
-/// A program that reads a page, run on one that comes in pieces: all that it writes.
-pub fn compare(checks: &mut Checks, program: &str, expected: Printed, pieces: &[&[u8]]) {
+/// A program that reads a page, run on one that comes in pieces: all that it writes. Gives back what it
+/// printed.
+pub fn compare(checks: &mut Checks, program: &str, expected: Printed, pieces: &[&[u8]]) -> String {
     let page = pieces.concat();
     let input = || format!("{}, in {} pieces", shown(&page), pieces.len());
     let written = run(checks, program, input, pieces);
     checks.same_lines(program, input, &expected.output, &written.output);
     compare_complaint(checks, input, expected.complaint, &written.error);
+    written.output
 }
