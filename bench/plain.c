@@ -401,6 +401,7 @@ static inline plain_date julian(uint32_t day) {
 }
 
 plain_date plain_civil_date(uint32_t day) { return day < GREGORIAN ? julian(day) : gregorian(day); }
+plain_date plain_iso_date(uint32_t day) { return gregorian(day); }
 
 /* The day of a line of a date, or the refusal's number with the top bit. */
 static inline uint32_t date_line(const uint8_t *line, size_t len) {

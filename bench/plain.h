@@ -70,6 +70,9 @@ typedef struct {
 /* Julian up to 4 October 1582, Gregorian from 15 October 1582. */
 plain_date plain_civil_date(uint32_t day);
 
+/* Gregorian throughout. */
+plain_date plain_iso_date(uint32_t day);
+
 /* A row of month turns, extended and asked. */
 uint32_t plain_months_extend(uint32_t turns, uint32_t covered, uint32_t days, uint8_t *list, size_t len);
 uint32_t plain_month_number(uint32_t turns, uint32_t covered, uint32_t day, const uint8_t *list, size_t len);
