@@ -15,12 +15,13 @@ ROOT = pathlib.Path(__file__).resolve().parent.parent
 PICTURE = ROOT / "docs/map.svg"
 
 UNDER_ALL = "days integers entries text words names input output".split()
-READS = "values page question span_line date_lines".split()
-RECKONS = "civil iso saka longitudes panchanga planets older_motions arms records query search lunar_months reasons blocks almanac zodiac".split()
-PRINTS = "dated remarks sheet month_sheet almanac_sheet plate messages drift_sheet catalogue explanation lunar_month_sheet sign_sheet reply conversion".split()
+READS = "values page question span_line date_lines one_line saka_line day_line".split()
+RECKONS = "civil iso saka saka_days longitudes panchanga planets older_motions arms records query search lunar_months reasons blocks almanac zodiac".split()
+PRINTS = "dated remarks sheet month_sheet almanac_sheet plate messages drift_sheet catalogue explanation lunar_month_sheet sign_sheet body_line day_glance day_message reply conversion".split()
 # Who, what is asked and answered, and the programs: for the operator calls from C, so numbers and no text.
 LANES = [
     ("the reader", "which days, and why not that one", "find why"),
+    ("the visitor", "a day at a glance", "day"),
     ("the operator", "a planet table, from C", "host"),
     ("the almanac desk", "a day, and thirty at one go", "day_sheet month"),
     ("the server", "almanac files, and read back", "almanac_write almanac_read"),

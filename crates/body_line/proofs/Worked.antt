@@ -1,6 +1,6 @@
 -- Worked lines: the nine of paper 01's day 33649, whose numbers were worked out apart with exact fractions, the Moon by
 -- the second edition, and what is refused. Both sides compute, so that `refl` proves them. Assumes nothing.
-use mathlib.Core.List.{[], _∷_, _++_, map}
+use mathlib.Core.List.{[], _∷_, map}
 use mathlib.Core.Path.{_≡_, refl}
 use Rattle.dated.specs.Dated.{angleBytes}
 use Rattle.days.specs.Days.{pairAt, inRange}

@@ -8,7 +8,7 @@ use panchanga::is_edition;
 use text::Line;
 ghost use mathlib.Core.Bool.{true, false};
 ghost use mathlib.Core.Path.{_≡_};
-ghost use Prim.Native.Nat.{_≤_, _<_};
+ghost use Prim.Native.Nat.{_<_};
 ghost use Rattle.days.specs.Days.{inRange};
 ghost use Rattle.longitudes.specs.Longitudes.{circle, longitudeAt};
 ghost use Rattle.panchanga.specs.TrueLongitudes.{isEdition};

@@ -8,14 +8,12 @@ use Prim.Native.Nat.{ℕ, _/_, _%_, _≤_, _<_}
 use native.Mathlib.Omega.{arith}
 use lib.Dec.{eqb}
 use lib.ListN.{length, length-append}
-use Rattle.civil.specs.Answers.{dateOfDay}
 use Rattle.dated.specs.Dated.{dayBytes}
 use Rattle.dated.proofs.Laws.{date-short, full-date-length, day-short}
 use Rattle.days.specs.Days.{lastDay}
 use Rattle.iso.specs.Calendar.{isoOn}
 use Rattle.lunar_months.specs.declared.MonthNumbers.{MonthNumbers}
 use Rattle.names.specs.declared.Kind.{Kind}
-use Rattle.names.specs.Names.{nameOf}
 use Rattle.names.proofs.Columns.{name-fits, column-short}
 use Rattle.text.specs.Ascii.{ascii}
 use Rattle.text.specs.Decimal.{digitsOf}

@@ -3,7 +3,6 @@ use day_line::ISO;
 use day_line::SAKA;
 use days::refusal;
 use text::Line;
-ghost use mathlib.Core.Path.{_≡_};
 ghost use Rattle.text.specs.Lines.{Holds};
 ghost use Rattle.day_message.specs.DayMessages.{notOneLine, formTakes, refusalSaid, messageSaid, messageFor};
 

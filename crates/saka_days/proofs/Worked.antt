@@ -1,10 +1,8 @@
 -- Worked dates: source 000's first two examples, one that fits without the mark alone, and one that fits neither way.
 -- Both sides compute, so that `refl` proves them. Assumes nothing.
-use mathlib.Core.Bool.{Bool, true, false}
+use mathlib.Core.Bool.{true, false}
 use mathlib.Core.List.{List, [], _∷_, _++_, map}
 use mathlib.Core.Path.{_≡_, refl}
-use Prim.Native.Nat.{ℕ}
-use Rattle.days.specs.declared.NumberAnswer.{NumberAnswer}
 use Rattle.days.specs.Days.{theNumber, noNumber, inRange, onDay}
 use Rattle.integers.specs.Integers.{floorOver, reduced}
 use Rattle.longitudes.specs.Longitudes.{differenceOf, table, meanLongitude, longitudeAt}

@@ -1,9 +1,7 @@
 -- `taken_day` meets its contract: whether the day without the mark fits, then the one with it. Assumes nothing.
 use borrow.Author.Needs.{needs}
-use borrow.Author.Tests.{not-true, not-false}
-use mathlib.Core.Bool.{true, false}
 use mathlib.Core.Path.{ap, sym, _∙_}
-use Rattle.saka_days.specs.SakaDays.{sakaDay, fitsDate, takenDay}
+use Rattle.saka_days.specs.SakaDays.{fitsDate, takenDay}
 use Rattle.saka_days.proofs.taken_day.Statement.{statement}
 use Rattle.saka_days.proofs.taken_day.Tie as tie
 
