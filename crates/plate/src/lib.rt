@@ -32,7 +32,7 @@ fn body_line(body: usize, seconds: u32, thirds: u32) -> Line
 pub fn line_count(input: &[u8]) -> usize
     ensures { λ r. ⌜ r ≡ length (plateLines (now (input .entry))) ⌝ }
 {
-    let read = text::read_day(input);
+    let read = day_word::of_input(input);
     if read.refusal != refusal::NONE {
         return 1;
     }
@@ -43,7 +43,7 @@ pub fn line_count(input: &[u8]) -> usize
 pub fn line(input: &[u8], index: usize) -> Line
     ensures { λ r. ⌜ Holds r (lineAt (plateLines (now (input .entry))) index) ⌝ }
 {
-    let read = text::read_day(input);
+    let read = day_word::of_input(input);
     if read.refusal != refusal::NONE {
         if index == 0 {
             return text::refusal_line(read.refusal);
