@@ -21,7 +21,8 @@ pub struct SakaRead {
     pub weekday: u32,
 }
 
-fn refused() -> SakaRead
+// What is handed back for words that are no date.
+pub fn refused() -> SakaRead
     ensures { λ r. ⌜ r ≡ noSaka ⌝ }
 {
     SakaRead {
