@@ -21,7 +21,7 @@ pub fn put_date(line: Line, date: Date) -> Line
 }
 
 // A number's last two digits.
-fn put_two_digits(line: Line, number: u32) -> Line
+pub fn put_two_digits(line: Line, number: u32) -> Line
     ensures { λ r. ⌜ r ≡ withBytes line (twoDigits number) ⌝ }
 {
     let tens = (number / 10 % 10) as u8;

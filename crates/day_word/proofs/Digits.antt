@@ -5,10 +5,10 @@ use mathlib.Core.List.{List, [], _∷_, _++_, append-nil}
 use mathlib.Core.Path.{_≡_, refl, sym, ap, _∙_}
 use Prim.Native.Nat.{ℕ, suc, _+_, _-_, _≤_, _<_}
 use native.Mathlib.Omega.{arith}
-use borrow.Author.Tests.{eq-eqb, ne-eqb, lt-ltb, le-ltb, leb-true, leb-false, le-leb, lt-leb, eqb-true}
+use borrow.Author.Tests.{eq-eqb, ne-eqb, lt-ltb, le-ltb, leb-true, leb-false, eqb-true}
 use lib.Dec.{eqb, leb, ltb}
 use lib.ListN.{length, getD, take, drop, length-append, length-take}
-use lib.Seq.{take-suc, take-length, take-append-seam, take-nil}
+use lib.Seq.{take-suc, take-length, take-append-seam}
 use Rattle.days.specs.declared.NumberAnswer.{NumberAnswer}
 use Rattle.days.specs.Days.{lastDay, theNumber, noNumber}
 use Rattle.days.specs.Refusals.{outOfRange, badInput}
@@ -17,7 +17,7 @@ use Rattle.text.specs.Decimal.{isDigit, allDigits, valueOf, isNumber, numberRea
 use Rattle.text.specs.Inputs.{isLine, inputRead, dayInput}
 use Rattle.text.specs.Lines.{space, newline}
 use Rattle.values.specs.Values.{numberOr, dayRead}
-use Rattle.words.specs.Words.{hash, isSeparator, runLength, upTo, afterFirst, trimmed, sameBytes, unmarked}
+use Rattle.words.specs.Words.{hash, isSeparator, runLength, upTo, afterFirst, trimmed, firstWord, afterWord, sameBytes, unmarked}
 use Rattle.words.proofs.Pieces.{up-to-whole}
 use Rattle.words.proofs.Runs.{run-on, run-stops, run-none}
 use Rattle.day_word.specs.DayWord.{isLongNumber, onTable, wordDay, onlyWord, dayAsked}
@@ -120,10 +120,6 @@ module _ (ds : List ℕ) (number : isNumber ds ≡ true) (few : length ds ≤ 6)
       go true e = rw (le-ltb lastDay (valueOf ds) (leb-true _ _ e))
       go false e = rw (lt-ltb lastDay (valueOf ds) (leb-false _ _ e))
 
-  as-only-word : onlyWord ds ≡ meant (valueOf ds)
-  unfolding onlyWord
-  as-only-word = rw (no-blank-in-front ds digits, nothing-behind ds digits, no-word, up-to-digits ds digits space no-blank) as-word
-
   is-line : isOneLine (ds ++ (newline ∷ [])) ≡ true
   unfolding isOneLine
   is-line =
@@ -134,11 +130,12 @@ module _ (ds : List ℕ) (number : isNumber ds ≡ true) (few : length ds ≤ 6)
   unfolding wordsOf upTo
   its-words = rw (no-mark ds digits, line-end ds digits, take-append-seam ds (newline ∷ []), run-whole ds digits hash no-hash, take-length ds)
 
-  as-input : dayAsked (ds ++ (newline ∷ [])) ≡ meant (valueOf ds)
-  unfolding dayAsked
-  as-input = rw (is-line, its-words) as-only-word
+-- ---- an input that the day sheet takes: one line that has its number alone
+pub record Alone (s : List ℕ) : Type 0 where
+  pub line : isOneLine s ≡ true
+  pub word : wordDay (firstWord (wordsOf s)) ≡ dayInput s
+  pub none : afterWord (wordsOf s) ≡ []
 
--- ---- an input that the day sheet takes
 abbrev front : List ℕ → List ℕ
 front s = take (length s - 1) s
 
@@ -167,12 +164,27 @@ module _ (s : List ℕ) (line : isLine s ≡ true) (number : isNumber (front s) 
   unfolding dayInput inputRead meant
   on-the-day-sheet = rw (line, is-read (front s) number few)
 
-pub as-on-the-day-sheet : (s : List ℕ) → (dayInput s .refusal ≡ badInput → ⊥) → dayAsked s ≡ dayInput s
+  words-are : wordsOf s ≡ front s
+  words-are = ap wordsOf (sym digits-and-newline) ∙ its-words (front s) number few
+
+  alone : Alone s
+  alone =
+      let all = digits (front s) number few in
+      record {
+        line = ap isOneLine (sym digits-and-newline) ∙ is-line (front s) number few;
+        word = rw (words-are, no-blank-in-front (front s) all, up-to-digits (front s) all space no-blank) (as-word (front s) number few ∙ sym on-the-day-sheet);
+        none = rw (words-are, no-blank-in-front (front s) all) (nothing-behind (front s) all);
+      }
+
+pub one-number : (s : List ℕ) → (dayInput s .refusal ≡ badInput → ⊥) → Alone s
 unfolding dayInput inputRead numberRead
-as-on-the-day-sheet s h = go (isLine s) (isNumber (front s)) refl refl
+one-number s h = go (isLine s) (isNumber (front s)) refl refl
   where
-    go : (t u : Bool) → isLine s ≡ t → isNumber (front s) ≡ u → dayAsked s ≡ dayInput s
-    go true true line number =
-        ap dayAsked (sym (digits-and-newline s line number)) ∙ as-input (front s) number (few s line number) ∙ sym (on-the-day-sheet s line number)
+    go : (t u : Bool) → isLine s ≡ t → isNumber (front s) ≡ u → Alone s
+    go true true line number = alone s line number
     go true false line number = absurd (h (rw (line, number)))
     go false u line number = absurd (h (rw line))
+
+pub as-on-the-day-sheet : (s : List ℕ) → (dayInput s .refusal ≡ badInput → ⊥) → dayAsked s ≡ dayInput s
+unfolding dayAsked onlyWord
+as-on-the-day-sheet s h = let only = one-number s h in rw (only .line, only .none, no-word) (only .word)

@@ -1,4 +1,5 @@
-// A day as one word: its number or its civil date; and as a program takes it, on a line of its own with blanks around it.
+// A day as one word: its number or its civil date; and as a program takes it, on a line of its own with blanks around
+// it.
 use days::Day;
 use days::NumberAnswer;
 use days::refusal;

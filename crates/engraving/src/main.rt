@@ -46,4 +46,5 @@ fn main() {
     let mut buffer = [0u8; text::TOO_LONG];
     let n = input::read_input(&mut buffer);
     print_plate(&buffer[..n]);
+    output::say(plate::fault(&buffer[..n]));
 }

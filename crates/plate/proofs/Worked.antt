@@ -1,5 +1,5 @@
--- Worked cases: the plate of day 0, whose longitudes are the epoch's and whole, and the refusals. What day is asked for is
--- the day sheet's; then both sides compute. Assumes nothing.
+-- Worked cases: the plate of day 0, whose longitudes are the epoch's and whole, and the refusals. What day is asked for
+-- is the day sheet's; then both sides compute. Assumes nothing.
 use mathlib.Core.Path.{_≡_}
 use native.Mathlib.Omega.{arith}
 use Rattle.day_word.proofs.Digits.{as-on-the-day-sheet}

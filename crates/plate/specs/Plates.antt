@@ -9,6 +9,8 @@ use Rattle.day_word.specs.DayWord.{dayAsked}
 use Rattle.days.specs.declared.NumberAnswer.{NumberAnswer}
 use Rattle.days.specs.Refusals.{accepted}
 use Rattle.days.specs.Days.{pairAt}
+use Rattle.faults.specs.declared.Program.the-variants.{Engraving}
+use Rattle.faults.specs.Faults.{faultText}
 use Rattle.longitudes.specs.Longitudes.{longitudeAt, thirdsAt}
 use Rattle.text.specs.Ascii.{ascii}
 use Rattle.text.specs.Lines.{spaced, refusalLine}
@@ -44,3 +46,7 @@ plateLines bs =
 -- ALL THAT IS PRINTED for an input
 abbrev pub platePrinted : List ℕ → List ℕ
 platePrinted input = joined (plateLines input)
+
+-- ALL THAT IS SAID of an input: nothing where it is accepted
+unfoldable pub plateFault : List ℕ → List ℕ
+plateFault input = faultText Engraving input (dayAsked input .refusal)

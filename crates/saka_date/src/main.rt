@@ -33,4 +33,5 @@ fn main() {
     let mut buffer = [0u8; text::TOO_LONG];
     let n = input::read_input(&mut buffer);
     print_days(&buffer[..n]);
+    output::say(saka_sheet::fault(&buffer[..n]));
 }

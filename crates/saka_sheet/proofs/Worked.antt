@@ -1,5 +1,5 @@
--- Worked cases: the date of 1522 that fits without the mark alone, one whose rule with the mark is refused, and one with
--- a number that no date has. Both sides compute, so that `refl` proves them. Assumes nothing.
+-- Worked cases: the date of 1522 that fits without the mark alone, one whose rule with the mark is refused, and one
+-- with a number that no date has. Both sides compute, so that `refl` proves them. Assumes nothing.
 use mathlib.Core.Path.{_≡_, refl}
 use Rattle.civil.specs.Answers.{dateOfDay}
 use Rattle.civil.specs.Calendar.{leap, monthDays, sameDate, next, dateOn}

@@ -9,6 +9,8 @@ use Rattle.dated.specs.Dated.{namedDayBytes}
 use Rattle.days.specs.declared.NumberAnswer.{NumberAnswer}
 use Rattle.days.specs.Days.{pairAt}
 use Rattle.days.specs.Refusals.{accepted, badInput, noSuchWeekday, noExtraMonth}
+use Rattle.faults.specs.declared.Program.the-variants.{SakaDate}
+use Rattle.faults.specs.Faults.{faultText}
 use Rattle.names.specs.declared.Kind.the-variants.{Tithi}
 use Rattle.names.specs.Names.{nameOf}
 use Rattle.one_line.specs.OneLine.{isOneLine, wordsOf}
@@ -63,6 +65,9 @@ ruleLine pending s =
 unfoldable pub isRefused : SakaRead → Bool
 isRefused s = eqb (sakaDay false s .refusal) badInput
 
+unfoldable pub sakaRefusal : SakaRead → ℕ
+sakaRefusal s = cond (isRefused s) badInput accepted
+
 -- the lines that are printed for a date
 unfoldable pub dateLines : SakaRead → List (List ℕ)
 dateLines s = cond (isRefused s) (refusalLine badInput ∷ []) (ruleLine false s ∷ ruleLine true s ∷ [])
@@ -74,3 +79,7 @@ sakaLinesFor input = dateLines (sakaAsked input)
 -- ALL THAT IS PRINTED for an input
 abbrev pub sakaPrinted : List ℕ → List ℕ
 sakaPrinted input = joined (sakaLinesFor input)
+
+-- ALL THAT IS SAID of an input: nothing where it is accepted
+unfoldable pub sakaFault : List ℕ → List ℕ
+sakaFault input = faultText SakaDate input (sakaRefusal (sakaAsked input))

@@ -1,8 +1,9 @@
-// The days of a Saka date as they are printed: a line for the rule without paper 02's mark and one for the rule with it,
-// each with the day's tithi at sunrise beside the one that is asked for.
+// The days of a Saka date as they are printed: a line for the rule without paper 02's mark and one for the rule with
+// it, each with the day's tithi at sunrise beside the one that is asked for.
 use days::Day;
 use days::NumberAnswer;
 use days::refusal;
+use faults::Program;
 use names::Kind;
 use panchanga::FIRST_EDITION;
 use saka_line::SakaRead;
@@ -11,7 +12,7 @@ ghost use mathlib.Core.Path.{_≡_};
 ghost use lib.ListN.{length};
 ghost use Rattle.text.specs.Lines.{withBytes, Holds};
 ghost use Rattle.text.specs.Sheets.{lineAt};
-ghost use Rattle.saka_sheet.specs.SakaSheets.{sakaAsked, tithiBytes, verdict, dayTold, refusalTold, ruleName, ruleLine, isRefused, dateLines};
+ghost use Rattle.saka_sheet.specs.SakaSheets.{sakaAsked, tithiBytes, verdict, dayTold, refusalTold, ruleName, ruleLine, isRefused, sakaRefusal, dateLines, sakaFault};
 
 // A line for each rule.
 pub const LINES: usize = 2;
@@ -96,6 +97,16 @@ fn is_refused(date: SakaRead) -> bool
     answer.refusal == refusal::BAD_INPUT
 }
 
+// The number of that refusal, or 0.
+fn refusal_of(date: SakaRead) -> u32
+    ensures { λ r. ⌜ r ≡ sakaRefusal date ⌝ }
+{
+    if is_refused(date) {
+        return refusal::BAD_INPUT;
+    }
+    refusal::NONE
+}
+
 // How many lines are printed for a date; a refusal is one.
 pub fn line_count(date: SakaRead) -> usize
     ensures { λ r. ⌜ r ≡ length (dateLines date) ⌝ }
@@ -117,4 +128,12 @@ pub fn line(date: SakaRead, index: usize) -> Line
         return text::refusal_line(refusal::BAD_INPUT);
     }
     rule_line(date, index == 1)
+}
+
+// What is said of an input, nothing where it is accepted.
+pub fn fault(input: &[u8]) -> Line
+    ensures { λ r. ⌜ Holds r (sakaFault (now (input .entry))) ⌝ }
+{
+    let refusal = refusal_of(read_input(input));
+    faults::said(Program::SakaDate, input, refusal)
 }

@@ -1,4 +1,5 @@
--- `print_days` meets its contract: each line is the sheet's next one, and the loop ends behind the last. Assumes nothing.
+-- `print_days` meets its contract: each line is the sheet's next one, and the loop ends behind the last. Assumes
+-- nothing.
 use Prim.Native.Nat.{_-_, _≤_}
 use mathlib.Core.Bool.{false≢true}
 use mathlib.Core.Path.{ap, _∙_}
