@@ -14,6 +14,8 @@
 #define PIERHEATHER_VERSION "unreleased"
 #endif
 
+#define ANY_COMMAND "pierheather COMMAND .. (pierheather help lists the commands)"
+
 enum { DONE = 0, WRONG_USAGE = 2, NOT_ALL = 4 };
 
 /* How to print: as the text says, by names or as a table whatever it says, or by names where it says nothing. */
@@ -28,11 +30,8 @@ static void put(const char *words) {
         text[bytes++] = (uint8_t)*words;
 }
 
-static int wrong_usage(const struct form *form) {
-    if (form)
-        fprintf(stderr, "usage: %s\n", form->usage);
-    else
-        fputs("usage: pierheather COMMAND .. (pierheather help lists the commands)\n", stderr);
+static int wrong_usage(const char *right) {
+    fprintf(stderr, "usage: %s\n", right);
     return WRONG_USAGE;
 }
 
@@ -68,7 +67,7 @@ static int help(int count, char **word) {
     if (count < 2)
         return print(overview);
     const struct form *form = count == 2 ? form_of(count, word, &wrong) : NULL;
-    return form ? print(form->help) : wrong_usage(NULL);
+    return form ? print(form->help) : wrong_usage(ANY_COMMAND);
 }
 
 /* What the options of a form ask for. */
@@ -144,7 +143,7 @@ static int read_input(const char *path) {
 static int put_line(const struct form *form, int count, char **word, const struct options *options) {
     for (int i = 0; i < count; i++) {
         if (!in_line(word[i]))
-            return wrong_usage(form);
+            return wrong_usage(form->usage);
         put(i ? " " : "");
         put(word[i]);
     }
@@ -156,7 +155,7 @@ static int put_line(const struct form *form, int count, char **word, const struc
         put(options->edition);
     }
     put("\n");
-    return count ? DONE : wrong_usage(form);
+    return count ? DONE : wrong_usage(form->usage);
 }
 
 /* A day in front of a page, the file, and a line for an edition; but behind a last line that is not ended, which is
@@ -164,7 +163,7 @@ static int put_line(const struct form *form, int count, char **word, const struc
 static int put_file(const struct form *form, int count, char **word, const struct options *options) {
     int days = form->kind == DAY_PAGE;
     if (count < days || count > days + 1 || (days && !in_line(word[0])))
-        return wrong_usage(form);
+        return wrong_usage(form->usage);
     if (days) {
         put(word[0]);
         put("\n");
@@ -196,19 +195,19 @@ int main(int count, char **word) {
     struct options options = {0};
     signal(SIGPIPE, SIG_DFL); /* a closed pipe ends it, also where who started it ignores that */
     if (count < 2)
-        return wrong_usage(NULL);
+        return wrong_usage(ANY_COMMAND);
     if (!strcmp(word[1], "--version"))
         return print("pierheather " PIERHEATHER_VERSION "\n");
     if (is_help(word[1]) || !strcmp(word[1], "help"))
         return help(count - 1, word + 1);
     const struct form *form = form_of(count, word, &wrong);
     if (!form)
-        return wrong_usage(NULL);
-    if (wrong && count > 2 && is_help(word[2]))
-        return print(form->help);
-    int taken = form->second ? 3 : 2, left = wrong ? -1 : operands(form, count - taken, word + taken, &options);
+        return wrong_usage(ANY_COMMAND);
+    if (wrong)
+        return count > 2 && is_help(word[2]) ? print(form->help) : wrong_usage(form->usages);
+    int taken = form->second ? 3 : 2, left = operands(form, count - taken, word + taken, &options);
     if (left < 0 || (options.edition && !in_line(options.edition)))
-        return wrong_usage(form);
+        return wrong_usage(form->usage);
     if (options.given & WITH_HELP)
         return print(form->help);
     int status = form->kind == WORDS ? put_line(form, left, word + taken, &options) : put_file(form, left, word + taken, &options);

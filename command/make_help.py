@@ -112,19 +112,21 @@ def header(told):
               "/* The options that a form takes. */",
               f"enum {{ {', '.join(f'WITH_{option.upper()} = {1 << at}' for at, option in enumerate(told.options))} }};", "",
               "struct form {", "    const char *name, *second; /* the command, and the word behind it or NULL */",
-              "    const char *usage, *help, *waits;", "    const char *edition; /* what stands in front of an edition's number */",
+              "    const char *usage, *usages; /* its own, and those of all forms of the command */", "    const char *help, *waits;", "    const char *edition; /* what stands in front of an edition's number */",
               "    int kind, options;", "    on_text *of_text;", "    on_text_printed *printed;", "    on_input *of_input;", "};", "",
               "static const char overview[] =", c_text(overview(told), "    ") + ";", ""]
     for command in told.commands:
         lines += [f"static const char help_{command.name.replace('-', '_')}[] =", c_text(help_of(told, command), "    ") + ";", ""]
     lines += ["static const struct form forms[] = {"]
     for command in told.commands:
+        usages = ", or ".join(FRONT + form.usage for form in command.forms)
         for form in command.forms:
             edition = form.edition + " " if form.edition else ""
             options = " | ".join(f"WITH_{option.upper()}" for option in form.options) or "0"
             calls = {"on_text": "of_text", "on_text_printed": "printed", "on_input": "of_input"}[form.type]
             waits = c_word(form.waits)
-            lines += [f"    {{.name = {c_word(command.name)}, .second = {c_word(form.second)}, .usage = \"{FRONT}{form.usage}\", .help = help_{command.name.replace('-', '_')},",
+            lines += [f"    {{.name = {c_word(command.name)}, .second = {c_word(form.second)}, .help = help_{command.name.replace('-', '_')},",
+                      f"     .usage = \"{FRONT}{form.usage}\", .usages = \"{usages}\",",
                       f"     .waits = {waits}, .edition = \"{edition}\", .kind = {form.kind.upper().replace('-', '_')}, .options = {options},",
                       f"     .{calls} = pierheather_{form.function}}},"]
     return "\n".join([*lines, "};", "", "#endif", ""])
