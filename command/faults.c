@@ -1,6 +1,6 @@
-/* For command/test: reads and writes that go wrong, put before the C library's by LD_PRELOAD. FAULTS says how: `short`, at
- * most three bytes a call; `interrupted`, every other read fails with EINTR first; `read N` and `write N`, the Nth call
- * fails. */
+/* For command/test: reads and writes that go wrong, put before the C library's by LD_PRELOAD. FAULTS says how: `short`,
+ * at most three bytes a call; `interrupted`, every other read fails with EINTR first; `read N` and `write N`, the Nth
+ * call fails. */
 #define _GNU_SOURCE
 #include <errno.h>
 #include <stdlib.h>

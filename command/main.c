@@ -44,7 +44,8 @@ static int print(const char *words) {
     return fputs(words, stdout) < 0 || fflush(stdout) ? failed("standard output") : DONE;
 }
 
-/* The form that the words name. Where the second word is none of its command's, it is the last one, and `wrong` is set. */
+/* The form that the words name. Where the second word is none of its command's, it is the last one, and `wrong` is
+ * set. */
 static const struct form *form_of(int count, char **word, int *wrong) {
     const struct form *found = NULL;
     for (size_t i = 0; i < sizeof forms / sizeof *forms; i++) {

@@ -35,12 +35,12 @@ after-requires : tie.Need-after-requires Inv-loop μ-loop
 after-requires c κs = search needs
 
 loop-less : tie.Need-loop-less Inv-loop μ-loop
-loop-less c = rw (c .after .ensures) (after-less _ (c .before .before .before .before .before .loop-test .taken))
+loop-less c = rw (c .after .ensures) (after-less _ (c .before .before .before .loop-test .taken))
 
 loop-again : tie.Need-loop-again Inv-loop μ-loop
 loop-again c =
-    rw (c .after .ensures, c .before .before .asked-with .ensures, c .before .before .before .up-to .ensures)
-    (sym (asked-next _ _) ∙ c .before .before .before .before .before .before .loop .inv)
+    rw (c .after .ensures, c .before .asked-with .ensures, c .before .before .up-to .ensures)
+    (sym (asked-next _ _) ∙ c .before .before .before .before .loop .inv)
 
 returns : tie.Need-returns Inv-loop μ-loop
 returns c = sym (asked-end _ _ (omega arith)) ∙ c .before .loop .inv
