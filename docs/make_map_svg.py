@@ -17,7 +17,7 @@ PICTURE = ROOT / "docs/map.svg"
 UNDER_ALL = "days integers entries text words names input output".split()
 READS = "values page question span_line date_lines".split()
 RECKONS = "civil iso saka longitudes panchanga planets older_motions arms records query search lunar_months reasons blocks almanac zodiac".split()
-PRINTS = "dated remarks sheet month_sheet almanac_sheet plate messages drift_sheet catalogue explanation lunar_month_sheet sign_sheet reply conversion".split()
+PRINTS = "dated remarks sheet month_sheet almanac_sheet plate messages drift_sheet catalogue explanation lunar_month_sheet sign_sheet reply conversion command_line finding programs".split()
 # Who, what is asked and answered, and the programs: for the operator calls from C, so numbers and no text.
 LANES = [
     ("the reader", "which days, and why not that one", "find why"),
@@ -29,6 +29,7 @@ LANES = [
     ("engravers", "a plate with thirds", "engraving"),
     ("the scholar", "how far from older books", "drift"),
     ("libraries", "ISO dates to days and back", "dates_to_days days_to_dates"),
+    ("who types", "all of it by one command", "command"),
 ]
 HELD = ("for comparison", "these hold the rest to the papers", "bridge worked scan_days *_cases")
 WIDE, LEFT, GAP, CHIP, LINE = 1150, 204, 14, 22, 28

@@ -39,11 +39,12 @@ loop-less c = rw (c .after .ensures) (after-less _ (c .before .before .before .l
 
 loop-again : tie.Need-loop-again Inv-loop μ-loop
 loop-again c =
+    let at = c .before .before .before .before .loop in
     rw (c .after .ensures, c .before .asked-with .ensures, c .before .before .up-to .ensures)
-    (sym (asked-next _ _) ∙ c .before .before .before .before .loop .inv)
+    (sym (asked-next (at .asked) (at .rest .now)) ∙ at .inv)
 
 returns : tie.Need-returns Inv-loop μ-loop
-returns c = sym (asked-end _ _ (omega arith)) ∙ c .before .loop .inv
+returns c = sym (asked-end (c .before .loop .asked) (c .before .loop .rest .now) (omega arith)) ∙ c .before .loop .inv
 
 pub is-asked-spec : {M : Type 1} → statement M
 is-asked-spec =

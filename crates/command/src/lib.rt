@@ -1,0 +1,40 @@
+// The functions of the command `pierheather`, for C: each reads a text, writes by itself and hands back the exit status.
+ghost use Rattle.command_line.specs.Statuses.{refusalStatus, Ends};
+ghost use Rattle.drift_sheet.specs.DriftSheets.{driftsRead};
+ghost use Rattle.finding.specs.Statuses.{findStatus};
+ghost use Rattle.sign_sheet.specs.SignSheets.{mostEntries, listedFor};
+ghost use Rattle.span_line.specs.SpanLine.{spanInput};
+
+#[no_mangle]
+pub extern "C" fn pierheather_find(text: &[u8], print: u32) -> u32
+    ensures { λ r. ⌜ Ends (findStatus (now (text .entry))) r ⌝ }
+{
+    finding::find(text, print)
+}
+
+#[no_mangle]
+pub extern "C" fn pierheather_drift(text: &[u8]) -> u32
+    ensures { λ r. ⌜ Ends (refusalStatus (driftsRead (now (text .entry)) .refusal)) r ⌝ }
+{
+    programs::drifts::run(text)
+}
+
+#[no_mangle]
+pub extern "C" fn pierheather_signs(text: &[u8]) -> u32
+    ensures { λ r. ⌜ Ends (refusalStatus (listedFor (now (text .entry)) mostEntries .listing .refusal)) r ⌝ }
+{
+    programs::signs::run(text)
+}
+
+#[no_mangle]
+pub extern "C" fn pierheather_almanac_write(text: &[u8]) -> u32
+    ensures { λ r. ⌜ Ends (refusalStatus (spanInput (now (text .entry)) .refusal)) r ⌝ }
+{
+    programs::almanac_writing::run(text)
+}
+
+// Of the file on standard input.
+#[no_mangle]
+pub extern "C" fn pierheather_almanac_read() -> u32 {
+    programs::almanac_reading::read()
+}

@@ -1,0 +1,5 @@
+// What the programs but `find` do with their inputs: what is printed and said, and the exit status of the command.
+pub mod almanac_reading;
+pub mod almanac_writing;
+pub mod drifts;
+pub mod signs;
