@@ -1,5 +1,8 @@
 // The functions of the command `pierheather`, for C: each reads a text, writes by itself and hands back the exit status.
+use date_lines::Kind;
+ghost use lib.ListN.{take};
 ghost use Rattle.command_line.specs.Statuses.{refusalStatus, Ends};
+ghost use Rattle.conversion.specs.Conversion.{told, inputBytes};
 ghost use Rattle.drift_sheet.specs.DriftSheets.{driftsRead};
 ghost use Rattle.finding.specs.Statuses.{findStatus};
 ghost use Rattle.sign_sheet.specs.SignSheets.{mostEntries, listedFor};
@@ -24,6 +27,20 @@ pub extern "C" fn pierheather_signs(text: &[u8]) -> u32
     ensures { λ r. ⌜ Ends (refusalStatus (listedFor (now (text .entry)) mostEntries .listing .refusal)) r ⌝ }
 {
     programs::signs::run(text)
+}
+
+#[no_mangle]
+pub extern "C" fn pierheather_dates_to_days(text: &[u8]) -> u32
+    ensures { λ r. ⌜ Ends (refusalStatus (told Kind.Dates (take inputBytes (now (text .entry))) .refusal)) r ⌝ }
+{
+    conversion::print_text(Kind::Dates, text)
+}
+
+#[no_mangle]
+pub extern "C" fn pierheather_days_to_dates(text: &[u8]) -> u32
+    ensures { λ r. ⌜ Ends (refusalStatus (told Kind.Days (take inputBytes (now (text .entry))) .refusal)) r ⌝ }
+{
+    conversion::print_text(Kind::Days, text)
 }
 
 #[no_mangle]

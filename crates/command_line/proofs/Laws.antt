@@ -4,8 +4,8 @@ use mathlib.Core.Path.{_≡_, refl, ap, _∙_}
 use Prim.Native.Nat.{ℕ}
 use Rattle.command_line.specs.Statuses.{notAll, endedBy, Ends}
 
-pub ends : {meant found status : ℕ} {whole : Bool} → status ≡ endedBy whole found → found ≡ meant → Ends meant status
-ends {whole = whole} e m = record { whole = whole; by = e ∙ ap (endedBy whole) m }
+pub ends : (whole : Bool) {meant found status : ℕ} → status ≡ endedBy whole found → found ≡ meant → Ends meant status
+ends whole e m = record { whole = whole; by = e ∙ ap (endedBy whole) m }
 
 -- not all was written
 pub ends-short : (meant : ℕ) → Ends meant notAll

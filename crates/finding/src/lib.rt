@@ -45,7 +45,7 @@ struct Outcome {
     found: u32,
 }
 
-fn outcome(written: Written, found: Found) -> Outcome
+fn of_found(written: Written, found: Found) -> Outcome
     ensures { λ r. ⌜ r ≡ record { bytes = written .bytes; whole = written .whole; found = found .length } ⌝ }
 {
     Outcome {
@@ -193,14 +193,14 @@ fn print_found(print: Print, query: Query, list: &mut [u8], buffer: &mut [u8]) -
     say_counts(print, query, found);
     let heading = print_heading(print, query, found, buffer);
     if !heading.whole {
-        return outcome(heading, found);
+        return of_found(heading, found);
     }
     if PART < found.length {
         let parts = print_parts(print, query, heading.bytes, list, buffer);
-        return outcome(parts, found);
+        return of_found(parts, found);
     }
     let listed = print_listed(print, query, heading.bytes, found, list, buffer);
-    outcome(listed, found)
+    of_found(listed, found)
 }
 
 // The exit status is that no day is found, or one is.

@@ -24,7 +24,7 @@ struct Taken {
     failed: bool,
 }
 
-fn taken(reader: Reader, failed: bool) -> Taken
+fn taken_by(reader: Reader, failed: bool) -> Taken
     ensures { λ r. ⌜ r ≡ record { reader = reader; failed = failed } ⌝ }
 {
     Taken { reader, failed }
@@ -39,17 +39,17 @@ fn read_blocks() -> Taken {
         let piece = input::read_piece(&mut buffer);
         let bytes = piece.bytes;
         if piece.failed {
-            return taken(reader.next(&buffer[..0]), true);
+            return taken_by(reader.next(&buffer[..0]), true);
         }
         if bytes == 0 {
-            return taken(reader, false);
+            return taken_by(reader, false);
         }
         reader = reader.next(&buffer[..bytes]);
         if reader.broken {
-            return taken(reader, false);
+            return taken_by(reader, false);
         }
     }
-    taken(reader, false)
+    taken_by(reader, false)
 }
 
 // The only way to print. By what it requires the bytes are the sheet's from one line to before another.

@@ -36,8 +36,8 @@ same-length c = search needs
 same-length-2 : tie.Need-same-length-2
 same-length-2 c = search needs
 
-outcome-requires : tie.Need-outcome-requires
-outcome-requires c κs = search needs
+of-found-requires : tie.Need-of-found-requires
+of-found-requires c κs = search needs
 
 returns : tie.Need-returns
 returns c =
