@@ -5,3 +5,4 @@ mod Printing
 mod Listed
 mod Parting
 mod Pages
+mod Ending

@@ -23,7 +23,7 @@ ghost use Rattle.search.specs.Days.{matchingDays, visitedDays};
 ghost use Rattle.search.specs.Spans.{between};
 ghost use Rattle.command_line.specs.Statuses.{refused, Ends};
 ghost use Rattle.finding.specs.Output.{headingOf, outputOf, saidOf, NextBytes, frontDays, NextDays};
-ghost use Rattle.finding.specs.Statuses.{nothingAsked, foundStatus, findStatus};
+ghost use Rattle.finding.specs.Statuses.{nothingAsked, countStatus, foundStatus, findStatus};
 
 // The list's entries: it stands where the page's text was, which is not needed once it is read. A span with more
 // matching days is searched part by part, with an entry for each day of a part. A page's query is searched as the one
@@ -203,7 +203,13 @@ fn print_found(print: Print, query: Query, list: &mut [u8], buffer: &mut [u8]) -
     of_found(listed, found)
 }
 
-// The exit status is that no day is found, or one is.
+// That no day is found, or one is.
+fn found_status(found: u32) -> u32
+    ensures { λ r. ⌜ r ≡ countStatus found ⌝ }
+{
+    command_line::of_answer(0 < found)
+}
+
 fn find_days(print: Print, query: Query, list: &mut [u8]) -> u32
     requires { ⌜ (refusalOf query ≡ 0) × (524288 ≤ length (now list)) ⌝ }
     ensures { λ r. ⌜ Ends (foundStatus query) r ⌝ }
@@ -214,7 +220,7 @@ fn find_days(print: Print, query: Query, list: &mut [u8]) -> u32
         output::say(output::not_written());
         return command_line::NOT_ALL;
     }
-    command_line::of_answer(printed.found != 0)
+    found_status(printed.found)
 }
 
 fn refuse(read: PageRead) -> u32

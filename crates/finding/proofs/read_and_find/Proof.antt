@@ -9,17 +9,11 @@ use Rattle.finding.proofs.read_and_find.Tie as tie
 read-input-requires : tie.Need-read-input-requires
 read-input-requires c κs = search needs
 
-refusal-line-requires : tie.Need-refusal-line-requires
-refusal-line-requires c κs = search needs
-
-print-requires : tie.Need-print-requires
-print-requires c κs = search needs
-
 unreadable-page-requires : tie.Need-unreadable-page-requires
 unreadable-page-requires c κs = search needs
 
-say-requires : tie.Need-say-requires
-say-requires c κs = search needs
+refuse-whole-requires : tie.Need-refuse-whole-requires
+refuse-whole-requires c κs = search needs
 
 same-length : tie.Need-same-length
 same-length c = search needs
@@ -75,10 +69,8 @@ read-and-find-spec =
     tie.close
     (tie.spec
     read-input-requires
-    refusal-line-requires
-    print-requires
     unreadable-page-requires
-    say-requires
+    refuse-whole-requires
     same-length
     returns
     slice-reshare-prefix-read

@@ -33,8 +33,14 @@ slice-aggregate-next c = search needs
 next-requires : tie.Need-next-requires Inv-loop μ-loop
 next-requires c κs = search needs
 
+taken-by-requires : tie.Need-taken-by-requires Inv-loop μ-loop
+taken-by-requires c κs = search needs
+
 returns : tie.Need-returns Inv-loop μ-loop
 returns c = search needs
+
+taken-by-requires-2 : tie.Need-taken-by-requires-2 Inv-loop μ-loop
+taken-by-requires-2 c κs = search needs
 
 returns-2 : tie.Need-returns-2 Inv-loop μ-loop
 returns-2 c = search needs
@@ -48,6 +54,9 @@ slice-aggregate-next-2 c = search needs
 next-requires-2 : tie.Need-next-requires-2 Inv-loop μ-loop
 next-requires-2 c κs = search needs
 
+taken-by-requires-3 : tie.Need-taken-by-requires-3 Inv-loop μ-loop
+taken-by-requires-3 c κs = search needs
+
 returns-3 : tie.Need-returns-3 Inv-loop μ-loop
 returns-3 c = search needs
 
@@ -59,6 +68,9 @@ loop-less c = search needs
 
 loop-again : tie.Need-loop-again Inv-loop μ-loop
 loop-again c = search needs
+
+taken-by-requires-4 : tie.Need-taken-by-requires-4 Inv-loop μ-loop
+taken-by-requires-4 c κs = search needs
 
 returns-4 : tie.Need-returns-4 Inv-loop μ-loop
 returns-4 c = search needs
@@ -76,13 +88,17 @@ read-blocks-spec =
     array-share-prefix-buffer
     slice-aggregate-next
     next-requires
+    taken-by-requires
     returns
+    taken-by-requires-2
     returns-2
     array-share-prefix-buffer-2
     slice-aggregate-next-2
     next-requires-2
+    taken-by-requires-3
     returns-3
     add-seen
     loop-less
     loop-again
+    taken-by-requires-4
     returns-4)

@@ -43,7 +43,7 @@ slice-aggregate-print-between c = sym (length-take-le _ _ (omega arith))
 print-between-requires : tie.Need-print-between-requires Inv-loop μ-loop
 print-between-requires c κs =
     let head = c .before .before .before .before in
-    rw (← head .before .before .pre) (head .loop .inv .1 .between)
+    rw (← head .before .before .before .pre) (head .loop .inv .1 .between)
 
 returns : tie.Need-returns Inv-loop μ-loop
 returns c = λ e. absurd (false≢true e)
@@ -51,7 +51,7 @@ returns c = λ e. absurd (false≢true e)
 -- the line has room in the buffer: it had, or those that waited were printed
 with-room :
     (c : tie.Joined1 Inv-loop μ-loop) →
-    (Waiting (driftLines (c .before .before .before .before .before .args .drifts)) 8192 (c .before .before .before .loop .buffer) (c .if1 .from) (c .if1 .bytes) (c .before .before .before .loop .index))
+    (Waiting (driftLines (c .before .before .before .before .before .before .args .drifts)) 8192 (c .before .before .before .loop .buffer) (c .if1 .from) (c .if1 .bytes) (c .before .before .before .loop .index))
     × (c .if1 .bytes + c .before .line .result .len ≤ 8192)
 with-room c =
     let inv = c .before .before .before .loop .inv .1 in
@@ -93,12 +93,12 @@ print-between-requires-2 : tie.Need-print-between-requires-2 Inv-loop μ-loop
 print-between-requires-2 c κs =
     let inv = c .before .before .loop .inv in
     let all : c .before .before .loop .index ≡ c .before .before .before .line-count .result = omega (arith, inv .0, inv .1 .some) in
-    rw (← all, ← c .before .before .before .before .pre) (inv .1 .between)
+    rw (← all, ← c .before .before .before .before .before .pre) (inv .1 .between)
 
 returns-2 : tie.Need-returns-2 Inv-loop μ-loop
 returns-2 c =
     let head = c .before .before .before in
-    λ _. rw (← head .before .before .pre) (head .loop .inv .0)
+    λ _. rw (← head .before .before .before .pre) (head .loop .inv .0)
 
 pub print-drifts-spec : {M : Type 1} → statement M
 print-drifts-spec =

@@ -28,7 +28,7 @@ line-count-requires c κs = search needs
 
 loop-holds : tie.Need-loop-holds Inv-loop μ-loop
 loop-holds c =
-    let listed = c .before .pre in
+    let listed = c .before .before .pre in
     (c .line-count .ensures _ _ ∙ ap length listed, waiting-none _ _ _ 0 (search needs) (omega arith))
 
 line-requires : tie.Need-line-requires Inv-loop μ-loop
@@ -44,7 +44,7 @@ slice-aggregate-print-between : tie.Need-slice-aggregate-print-between Inv-loop 
 slice-aggregate-print-between c = sym (length-take-le _ _ (omega arith))
 
 print-between-requires : tie.Need-print-between-requires Inv-loop μ-loop
-print-between-requires c κs = c .before .before .before .before .before .loop .inv .1 .between
+print-between-requires c κs = c .before .before .before .before .loop .inv .1 .between
 
 returns : tie.Need-returns Inv-loop μ-loop
 returns c = λ e. absurd (false≢true e)
@@ -52,10 +52,10 @@ returns c = λ e. absurd (false≢true e)
 -- the line has room in the buffer: it had, or those that waited were printed
 with-room :
     (c : tie.Joined1 Inv-loop μ-loop) →
-    (Waiting (signLinesFor (c .before .before .before .before .before .before .before .before .before .before .args .input .now)) 8192 (c .before .before .before .before .loop .buffer) (c .if1 .from) (c .if1 .bytes) (c .before .before .before .before .loop .index))
+    (Waiting (signLinesFor (c .before .before .before .before .before .before .args .input .now)) 8192 (c .before .before .before .loop .buffer) (c .if1 .from) (c .if1 .bytes) (c .before .before .before .loop .index))
     × (c .if1 .bytes + c .before .line .result .len ≤ 8192)
 with-room c =
-    let inv = c .before .before .before .before .loop .inv .1 in
+    let inv = c .before .before .before .loop .inv .1 in
     let few = holds-room (c .before .line .ensures) .1 in
     ⊎-elim
     (λ w. rw (w .4, w .5) (waiting-none _ _ _ _ (inv .size) (inv .some), omega arith))
@@ -63,7 +63,7 @@ with-room c =
     (c .if1 .came)
 
 slice-aggregate-put : tie.Need-slice-aggregate-put Inv-loop μ-loop
-slice-aggregate-put c = sym (c .before .before .before .before .before .loop .inv .1 .size)
+slice-aggregate-put c = sym (c .before .before .before .before .loop .inv .1 .size)
 
 put-requires : tie.Need-put-requires Inv-loop μ-loop
 put-requires c κs = search needs
@@ -80,9 +80,9 @@ loop-less c = omega arith
 loop-again : tie.Need-loop-again Inv-loop μ-loop
 loop-again c =
     let joined = c .before .before .before .before in
-    let head = joined .before .before .before .before in
+    let head = joined .before .before .before in
     let room = with-room joined in
-    let listed = head .before .before .pre in (
+    let listed = head .before .before .before .pre in (
       head .loop .inv .0,
       waiting-line _ _ _ _ _ _ _ _ (room .0) (omega (arith, head .loop .inv .0)) (rw listed at (joined .before .line .ensures)) (room .1) (c .before .before .put .ensures .1),
     )
