@@ -5,14 +5,46 @@ ghost use Rattle.command_line.specs.Statuses.{refusalStatus, Ends};
 ghost use Rattle.conversion.specs.Conversion.{told, inputBytes};
 ghost use Rattle.drift_sheet.specs.DriftSheets.{driftsRead};
 ghost use Rattle.finding.specs.Statuses.{findStatus};
+ghost use Rattle.lunar_month_sheet.specs.MonthSheets.{monthRefusal};
+ghost use Rattle.month_sheet.specs.MonthSheets.{monthRead};
+ghost use Rattle.programs.specs.Why.{whyStatus};
 ghost use Rattle.sign_sheet.specs.SignSheets.{mostEntries, listedFor};
 ghost use Rattle.span_line.specs.SpanLine.{spanInput};
+ghost use Rattle.text.specs.Inputs.{dayInput};
 
 #[no_mangle]
 pub extern "C" fn pierheather_find(text: &[u8], print: u32) -> u32
     ensures { λ r. ⌜ Ends (findStatus (now (text .entry))) r ⌝ }
 {
     finding::find(text, print)
+}
+
+#[no_mangle]
+pub extern "C" fn pierheather_why(text: &[u8], print: u32) -> u32
+    ensures { λ r. ⌜ Ends (whyStatus (now (text .entry))) r ⌝ }
+{
+    programs::replies::run(text, print)
+}
+
+#[no_mangle]
+pub extern "C" fn pierheather_month(text: &[u8]) -> u32
+    ensures { λ r. ⌜ Ends (refusalStatus (monthRead (now (text .entry)) .refusal)) r ⌝ }
+{
+    programs::months::run(text)
+}
+
+#[no_mangle]
+pub extern "C" fn pierheather_plate(text: &[u8]) -> u32
+    ensures { λ r. ⌜ Ends (refusalStatus (dayInput (now (text .entry)) .refusal)) r ⌝ }
+{
+    programs::plates::run(text)
+}
+
+#[no_mangle]
+pub extern "C" fn pierheather_lunar_month(text: &[u8]) -> u32
+    ensures { λ r. ⌜ Ends (refusalStatus (monthRefusal (now (text .entry)))) r ⌝ }
+{
+    programs::lunar_months::run(text)
 }
 
 #[no_mangle]

@@ -68,6 +68,12 @@ monthTold a =
     let month = monthNumbers (monthOn (a .edition) (a .day)) in
     cond (eqb (a .refusal) accepted) (cond (eqb (month .refusal) accepted) (monthSheet (a .day) month) (refusalLine (month .refusal))) (refusalLine (a .refusal))
 
+-- the refusal's number that is printed, or 0
+unfoldable pub monthRefusal : List ℕ → ℕ
+monthRefusal input =
+    let a = askedInput input in
+    cond (eqb (a .refusal) accepted) (monthNumbers (monthOn (a .edition) (a .day)) .refusal) (a .refusal)
+
 -- ALL THAT IS PRINTED for an input
 unfoldable pub monthPrinted : List ℕ → List ℕ
 monthPrinted input = monthTold (askedInput input)

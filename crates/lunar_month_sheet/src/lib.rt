@@ -14,7 +14,7 @@ ghost use mathlib.Core.Path.{_≡_};
 ghost use Prim.Native.Nat.{_≤_};
 ghost use Rattle.days.specs.Days.{lastDay};
 ghost use Rattle.text.specs.Lines.{Holds};
-ghost use Rattle.lunar_month_sheet.specs.MonthSheets.{editionRead, noneAsked, asked, askedLine, askedInput, monthSheet, monthPrinted};
+ghost use Rattle.lunar_month_sheet.specs.MonthSheets.{editionRead, noneAsked, asked, askedLine, askedInput, monthSheet, monthRefusal, monthPrinted};
 
 // What an input asks: a refusal's number, or 0, and the day and the edition. A refusal has zeros.
 struct Asked {
@@ -122,4 +122,16 @@ pub fn sheet(input: &[u8]) -> Line
         return text::refusal_line(month.refusal);
     }
     two_lines(read.day, month)
+}
+
+// The refusal's number that is printed, or 0.
+pub fn refusal_of(input: &[u8]) -> u32
+    ensures { λ r. ⌜ r ≡ monthRefusal (now (input .entry)) ⌝ }
+{
+    let read = read_input(input);
+    if read.refusal != refusal::NONE {
+        return read.refusal;
+    }
+    let month = lunar_months::month_on(read.edition, read.day).numbers();
+    month.refusal
 }

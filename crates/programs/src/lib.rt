@@ -2,4 +2,8 @@
 pub mod almanac_reading;
 pub mod almanac_writing;
 pub mod drifts;
+pub mod lunar_months;
+pub mod months;
+pub mod plates;
+pub mod replies;
 pub mod signs;

@@ -17,14 +17,14 @@ fn say_remarks(input: &[u8]) {
 
 // The only way to print the reply. By what it requires the bytes are all that is printed for the input.
 fn print_all(input: &[u8], bytes: &[u8])
-    requires { ⌜ now bytes ≡ printedFor (now input) ⌝ }
+    requires { ⌜ now bytes ≡ printedFor 0 (now input) ⌝ }
 {
     output::print_bytes(bytes);
 }
 
 fn reply_to(input: &[u8]) {
     let mut buffer = [0u8; explanation::ROOM];
-    let reply = reply::to_input(input, &mut buffer);
+    let reply = reply::to_input(0, input, &mut buffer);
     let printed = reply.printed;
     let said = reply.said;
     say_remarks(input);
