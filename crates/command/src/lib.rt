@@ -1,4 +1,5 @@
-// The functions of the command `pierheather`, for C: each reads a text, writes by itself and hands back the exit status.
+// The functions of the command `pierheather`, for C: each reads a text, writes by itself and hands back the exit
+// status.
 use date_lines::Kind;
 ghost use lib.ListN.{take};
 ghost use Rattle.command_line.specs.Statuses.{refusalStatus, Ends};
