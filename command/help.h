@@ -12,9 +12,7 @@ typedef uint32_t on_text_printed(const uint8_t *text, size_t len, uint32_t print
 typedef uint32_t on_input(void);
 extern on_text_printed pierheather_find;
 extern on_text_printed pierheather_why;
-extern on_text pierheather_day;
-extern on_text pierheather_saka;
-extern on_text_printed pierheather_month;
+extern on_text pierheather_month;
 extern on_text pierheather_signs;
 extern on_text pierheather_plate;
 extern on_text pierheather_drift;
@@ -47,9 +45,7 @@ static const char overview[] =
     "\n"
     "  find         list every day that fits a torn page\n"
     "  why          say why a day is not in a page's list, or that it fits\n"
-    "  day          a day at a glance\n"
-    "  saka         the days that a Saka date can be, and which of them fits it\n"
-    "  month        the days of a month, thirty or as many as are asked for\n"
+    "  month        thirty days from a day on\n"
     "  signs        the days on which the Sun enters a sign\n"
     "  plate        a day's mean longitudes for the engravers, to the third\n"
     "  drift        how far Sun, Moon and the Moon's apogee come from the older books over a span\n"
@@ -60,8 +56,7 @@ static const char overview[] =
     "\n"
     "A file that is missing, or -, is standard input. Exit status:\n"
     "  0  done\n"
-    "  1  find found no day, why says that the day does not fit, or of saka's days\n"
-    "     none fits\n"
+    "  1  find found no day, or why says that the day does not fit\n"
     "  2  wrong usage; a line on standard error has the right one\n"
     "  3  refused: the refusal's number is on standard output and the reason on\n"
     "     standard error\n"
@@ -79,7 +74,7 @@ static const char help_find[] =
     "\n"
     "    $ pierheather find examples/torn-page.txt\n"
     "\n"
-    "  --names       print names beside numbers, in columns; the default of find, why and month on a terminal\n"
+    "  --names       print names beside numbers, in columns; the default of find and why on a terminal\n"
     "  --csv         print a comma-separated table\n"
     "  --edition N   reckon the Moon by edition 1 or 2\n";
 
@@ -93,43 +88,17 @@ static const char help_why[] =
     "\n"
     "    $ pierheather why 1612-5-15 examples/torn-page.txt\n"
     "\n"
-    "  --names       print names beside numbers, in columns; the default of find, why and month on a terminal\n"
+    "  --names       print names beside numbers, in columns; the default of find and why on a terminal\n"
     "  --edition N   reckon the Moon by edition 1 or 2\n";
-
-static const char help_day[] =
-    "usage: pierheather day [--edition N] DAY\n"
-    "\n"
-    "A day at a glance.\n"
-    "\n"
-    "DAY is a day's number, a civil date as 1612-5-14, `iso 1612-05-14`, or `saka`\n"
-    "with a Saka date, as `saka 1534 vaishakha shukla 15 monday`.\n"
-    "\n"
-    "    $ pierheather day 1612-5-14\n"
-    "\n"
-    "  --edition N   reckon the Moon by edition 1 or 2\n";
-
-static const char help_saka[] =
-    "usage: pierheather saka YEAR MONTHS TITHIS WEEKDAY\n"
-    "\n"
-    "The days that a Saka date can be, and which of them fits it.\n"
-    "\n"
-    "MONTHS is a number or a month's name, TITHIS a number, or `shukla` or\n"
-    "`krishna` with 1 to 15.\n"
-    "\n"
-    "    $ pierheather saka 1522 0 2 friday\n";
 
 static const char help_month[] =
-    "usage: pierheather month [--names | --csv] [--edition N] DAY [days N]\n"
+    "usage: pierheather month DAY\n"
     "\n"
-    "The days of a month, thirty or as many as are asked for.\n"
+    "Thirty days from a day on.\n"
     "\n"
-    "DAY is the first day, by its number or its civil date.\n"
+    "DAY is the first day, by its number.\n"
     "\n"
-    "    $ pierheather month 1612-5-14\n"
-    "\n"
-    "  --names       print names beside numbers, in columns; the default of find, why and month on a terminal\n"
-    "  --csv         print a comma-separated table\n"
-    "  --edition N   reckon the Moon by edition 1 or 2\n";
+    "    $ pierheather month 33649\n";
 
 static const char help_signs[] =
     "usage: pierheather signs [--true] FIRST LAST\n"
@@ -196,18 +165,10 @@ static const struct form forms[] = {
      .usage = "pierheather why [--names] [--edition N] DAY [PAGE]", .usages = "pierheather why [--names] [--edition N] DAY [PAGE]",
      .waits = "a page", .edition = "edition ", .kind = DAY_PAGE, .options = WITH_NAMES | WITH_EDITION,
      .printed = pierheather_why},
-    {.name = "day", .second = NULL, .help = help_day,
-     .usage = "pierheather day [--edition N] DAY", .usages = "pierheather day [--edition N] DAY",
-     .waits = NULL, .edition = "edition ", .kind = WORDS, .options = WITH_EDITION,
-     .of_text = pierheather_day},
-    {.name = "saka", .second = NULL, .help = help_saka,
-     .usage = "pierheather saka YEAR MONTHS TITHIS WEEKDAY", .usages = "pierheather saka YEAR MONTHS TITHIS WEEKDAY",
-     .waits = NULL, .edition = "", .kind = WORDS, .options = 0,
-     .of_text = pierheather_saka},
     {.name = "month", .second = NULL, .help = help_month,
-     .usage = "pierheather month [--names | --csv] [--edition N] DAY [days N]", .usages = "pierheather month [--names | --csv] [--edition N] DAY [days N]",
-     .waits = NULL, .edition = "edition ", .kind = WORDS, .options = WITH_NAMES | WITH_CSV | WITH_EDITION,
-     .printed = pierheather_month},
+     .usage = "pierheather month DAY", .usages = "pierheather month DAY",
+     .waits = NULL, .edition = "", .kind = WORDS, .options = 0,
+     .of_text = pierheather_month},
     {.name = "signs", .second = NULL, .help = help_signs,
      .usage = "pierheather signs [--true] FIRST LAST", .usages = "pierheather signs [--true] FIRST LAST",
      .waits = NULL, .edition = "", .kind = WORDS, .options = WITH_TRUE,

@@ -3,21 +3,19 @@
 _pierheather() {
   local word=${COMP_WORDS[COMP_CWORD]} choices=
   if [ "$COMP_CWORD" -eq 1 ]; then
-    choices='find why day saka month signs plate drift lunar-month iso almanac help --help --version'
+    choices='find why month signs plate drift lunar-month iso almanac help --help --version'
   else
     case ${COMP_WORDS[1]} in
     find) choices='--names --csv --edition --help' ;;
     why) choices='--names --edition --help' ;;
-    day) choices='--edition --help' ;;
-    saka) choices='--help' ;;
-    month) choices='--names --csv --edition --help' ;;
+    month) choices='--help' ;;
     signs) choices='--true --help' ;;
     plate) choices='--help' ;;
     drift) choices='--help' ;;
     lunar-month) choices='--edition --help' ;;
     iso) if [ "$COMP_CWORD" -eq 2 ]; then choices='--to-days --to-dates --help'; fi ;;
     almanac) if [ "$COMP_CWORD" -eq 2 ]; then choices='write read --help'; fi ;;
-    help) choices='find why day saka month signs plate drift lunar-month iso almanac help' ;;
+    help) choices='find why month signs plate drift lunar-month iso almanac help' ;;
     esac
   fi
   # What is no option may be a file.
