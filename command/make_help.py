@@ -176,20 +176,19 @@ def completion(told):
     names = " ".join([*(command.name for command in told.commands), "help"])
     lines = [f"# Completion of pierheather's commands for bash, made by command/make_help.py of {SOURCE}: source this file, or",
              "# put it into the folder of bash-completion under the command's name.", "_pierheather() {",
-             "  local word=${COMP_WORDS[COMP_CWORD]} choices=",
-             "  if [ \"$COMP_CWORD\" -eq 1 ]; then", f"    choices='{names} --help --version'", "  else", "    case ${COMP_WORDS[1]} in"]
+             "  local word=${COMP_WORDS[COMP_CWORD]} choices= files=no",
+             "  if [ \"$COMP_CWORD\" -eq 1 ]; then", f"    choices='{names} --help --version'", "  else", "    files=yes", "    case ${COMP_WORDS[1]} in"]
     for command in told.commands:
         seconds = [form.second for form in command.forms if form.second]
         options = sorted({option for form in command.forms for option in form.options}, key=[*told.options].index)
         words = " ".join([*(f"--{option}" for option in options), "--help"])
         if seconds:
-            lines.append(f"    {command.name}) if [ \"$COMP_CWORD\" -eq 2 ]; then choices='{' '.join([*seconds, '--help'])}'; fi ;;")
+            lines.append(f"    {command.name}) if [ \"$COMP_CWORD\" -eq 2 ]; then choices='{' '.join([*seconds, '--help'])}' files=no; fi ;;")
         else:
             lines.append(f"    {command.name}) choices='{words}' ;;")
-    lines += [f"    help) choices='{names}' ;;", "    esac", "  fi",
-              "  # What is no option may be a file.",
-              "  mapfile -t COMPREPLY < <(compgen -W \"$choices\" -- \"$word\")",
-              "  if [ \"$COMP_CWORD\" -gt 1 ] && [ \"${COMP_WORDS[1]}\" != help ] && [[ $word != -* ]]; then",
+    lines += [f"    help) choices='{names}' files=no ;;", "    esac", "  fi",
+                            "  mapfile -t COMPREPLY < <(compgen -W \"$choices\" -- \"$word\")",
+              "  if [ $files = yes ] && [[ $word != -* ]]; then",
               "    mapfile -t -O \"${#COMPREPLY[@]}\" COMPREPLY < <(compgen -f -- \"$word\")",
               "  fi", "}", "complete -o filenames -F _pierheather pierheather ./pierheather", ""]
     return "\n".join(lines)
