@@ -185,7 +185,8 @@ def completion(told):
         if seconds:
             lines.append(f"    {command.name}) if [ \"$COMP_CWORD\" -eq 2 ]; then choices='{' '.join([*seconds, '--help'])}' files=no; fi ;;")
         else:
-            lines.append(f"    {command.name}) choices='{words}' ;;")
+            none = " files=no" if command.forms[0].kind == "words" else ""
+            lines.append(f"    {command.name}) choices='{words}'{none} ;;")
     lines += [f"    help) choices='{names}' files=no ;;", "    esac", "  fi",
                             "  mapfile -t COMPREPLY < <(compgen -W \"$choices\" -- \"$word\")",
               "  if [ $files = yes ] && [[ $word != -* ]]; then",

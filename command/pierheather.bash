@@ -9,11 +9,11 @@ _pierheather() {
     case ${COMP_WORDS[1]} in
     find) choices='--names --csv --edition --help' ;;
     why) choices='--names --edition --help' ;;
-    month) choices='--help' ;;
-    signs) choices='--true --help' ;;
-    plate) choices='--help' ;;
-    drift) choices='--help' ;;
-    lunar-month) choices='--edition --help' ;;
+    month) choices='--help' files=no ;;
+    signs) choices='--true --help' files=no ;;
+    plate) choices='--help' files=no ;;
+    drift) choices='--help' files=no ;;
+    lunar-month) choices='--edition --help' files=no ;;
     iso) if [ "$COMP_CWORD" -eq 2 ]; then choices='--to-days --to-dates --help' files=no; fi ;;
     almanac) if [ "$COMP_CWORD" -eq 2 ]; then choices='write read --help' files=no; fi ;;
     help) choices='find why month signs plate drift lunar-month iso almanac help' files=no ;;
