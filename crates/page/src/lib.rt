@@ -36,8 +36,6 @@ ghost use Rattle.words.specs.Words.{placeIn};
 ghost use Rattle.page.specs.Names.{keywords};
 ghost use Rattle.page.specs.Page.{keywordCount, isElement, elementOf, onlySpan, noValues, withCondition, rankOf, ranksBefore, firstRefusal, firstValue, secondValue, numbersRead, printOf, withPrint, printRead, hasArcs, arcRead, signArc, widthTo, toArc, isTo, namedArc, arcIn, arcWords, secondArcIn, arcsRead, arcsIn, mostValues, valuesRead, otherValues, malformedLine, refusedAs, conditionRead, lineRead, firstFault, withFault, withLine, emptyPage, pageAnswer, pageRead};
 
-// The words that a line begins with, behind them the names of the bodies, then `karana`, the names of the true places
-// and `print`; each is known by its place among them all.
 // The words that a line begins with, behind them the names of the bodies, then `karana`, the names of the true places,
 // `print` and `all`; each is known by its place among them all.
 const CONDITIONS: [u8; 41] = *b"span weekday tithi nakshatra yoga edition";

@@ -7,7 +7,7 @@ use Rattle.conversion.proofs.print_text.Statement.{statement}
 use Rattle.conversion.proofs.print_text.Tie as tie
 
 slice-aggregate-convert-and-print : tie.Need-slice-aggregate-convert-and-print
-slice-aggregate-convert-and-print c = sym (length-take-le _ _ (omega arith))
+slice-aggregate-convert-and-print c = sym (length-take-le 45057 (c .before .before .before .args .text .now) (omega arith))
 
 convert-and-print-requires : tie.Need-convert-and-print-requires
 convert-and-print-requires c κs = search needs

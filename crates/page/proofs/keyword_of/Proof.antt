@@ -1,5 +1,3 @@
--- `keyword_of` meets its contract: the bodies' names stand behind the others, then `karana`, the true places' and
--- `print`.
 -- `keyword_of` meets its contract: the bodies' names stand behind the others, then `karana`, the true places', `print`
 -- and `all`.
 -- Assumes nothing.

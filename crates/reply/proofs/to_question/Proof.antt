@@ -15,8 +15,8 @@ empty-requires c κs = search needs
 
 returns : tie.Need-returns
 returns c =
-    let printed = c .before .before .before in
-    accepted-reply _ _ _ _ _ _ (printed .before .before .if1 .taken) (rw (printed .print-for .ensures) at (c .before .put-line .ensures)) (c .empty .ensures)
+    let printed = c .before .before .before .before in
+    accepted-reply _ _ _ _ _ _ (printed .before .if1 .taken) (rw (printed .print-for .ensures) at (c .before .put-line .ensures)) (c .empty .ensures)
 
 refusal-line-requires : tie.Need-refusal-line-requires
 refusal-line-requires c κs = search needs
