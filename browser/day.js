@@ -59,6 +59,7 @@ class DayPanel {
     this.writeBodies(glance);
     this.drawDial(glance);
     if (focus) byId("day-title").focus();
+    else byId("day-title").scrollIntoView({ block: "nearest" });
     this.shown(number, glance.lines.date[0]);
   }
 

@@ -38,13 +38,15 @@ class Desk {
     return behind;
   }
 
-  // What a call puts for a text, numbers and a list of days; where the room is too short, the call says what would do.
+  // What a call puts for a text or none, numbers and a list of days or none; where the room is too short, the call says
+  // what would do.
   put(name, text, numbers = [], list = null, room = 4096) {
     const bytes = list ? 4 * list.length : 0;
-    const at = this.lend(text, bytes + room);
+    const at = this.lend(text === null ? this.lent || "" : text, bytes + room);
     if (list) new Uint32Array(this.calls.memory.buffer, at, list.length).set(list);
+    const texts = text === null ? [] : [this.base, BigInt(this.length)];
     const lists = list ? [at, BigInt(bytes)] : [];
-    const length = this.calls[name](this.base, BigInt(this.length), ...numbers, ...lists, at + bytes, BigInt(room)) >>> 0;
+    const length = this.calls[name](...texts, ...numbers, ...lists, at + bytes, BigInt(room)) >>> 0;
     if (length > room) return this.put(name, text, numbers, list, length);
     return this.decoder.decode(new Uint8Array(this.calls.memory.buffer, at + bytes, length));
   }
@@ -93,5 +95,5 @@ class Desk {
   sakaSaid(line) { return this.put("desk_saka_said", line); }
 
   // A name by its kind and number, plain (0) or in transliteration (1).
-  name(kind, number, spelling) { return this.put("desk_name", "", [KINDS.indexOf(kind), number, spelling]); }
+  name(kind, number, spelling) { return this.put("desk_name", null, [KINDS.indexOf(kind), number, spelling]); }
 }

@@ -172,8 +172,8 @@ class Form {
       }
       const from = input(`start ${number}`, WORDS.start, angleOf(start));
       const other = input(`end ${number}`, shape === "to" ? WORDS.end : WORDS.width, angleOf(shape === "to" ? end : width));
-      const word_ = (control) => control.value.replace(/[\s,#]/g, "");
-      fields.push({ values: () => [word_(from[1]), ...(shape === "to" ? ["to"] : []), word_(other[1])].join(" ") });
+      const entered = (control) => control.value.replace(/[\s,#]/g, "");
+      fields.push({ values: () => [entered(from[1]), ...(shape === "to" ? ["to"] : []), entered(other[1])].join(" ") });
       return made("div", { className: "line" }, shapeField, ...from, ...other);
     });
     const places = NO_TRUE_PLACE.includes(body) ? [["mean", WORDS.mean]] : [["true", WORDS.true], ["mean", WORDS.mean]];
@@ -184,6 +184,7 @@ class Form {
     });
     const ends = [];
     if (arcs.length < 2) ends.push(button("or", WORDS.or, () => this.write((text) => withLine(text, word, `${valuesOf()} ${this.names.sign[0].plain}`))));
+    else ends.push(button("or", WORDS.one, () => this.write((text) => withLine(text, word, fields[0].values()))));
     ends.push(button("remove", WORDS.remove, () => this.write((text) => withLine(text, word, null))));
     return made("div", { className: "body", role: "group", "aria-label": `${WORDS.body[body]}, ${isTrue(word) ? WORDS.true : WORDS.mean}` },
       made("div", { className: "line" }, made("b", { textContent: WORDS.body[body] }), place, ...ends), ...lines);

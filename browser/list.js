@@ -15,7 +15,7 @@ class List {
     new ResizeObserver(() => this.draw()).observe(this.box);
     byId("rows").addEventListener("click", (event) => {
       const row = event.target.closest("tr");
-      if (row) this.choose(Number(row.dataset.index), true);
+      if (row) this.choose(Number(row.dataset.index), event);
     });
     byId("rows").addEventListener("keydown", (event) => this.key(event));
   }
@@ -51,7 +51,7 @@ class List {
     const first = Math.max(0, Math.floor(this.box.scrollTop / ROW_HEIGHT) - MARGIN);
     const last = Math.min(this.days.length, Math.ceil((this.box.scrollTop + this.box.clientHeight) / ROW_HEIGHT) + MARGIN);
     const state = `${first} ${last} ${this.chosen} ${this.current}`;
-    if (state === this.drawn) return;
+    if (state === this.drawn || (this.days.length && !this.box.clientHeight)) return;
     this.drawn = state;
     const focused = byId("rows").contains(document.activeElement);
     const lines = last > first ? this.linesOfDays(this.days.subarray(first, last)).split("\n") : [];
@@ -78,10 +78,11 @@ class List {
     if (focus) this.focus();
   }
 
-  choose(index, tell) {
+  // Chooses a row, by a click or a key where there is an event (a key's click has no detail).
+  choose(index, event = null) {
     this.chosen = index;
-    this.moveTo(index, tell);
-    if (tell) this.chose(this.days[index]);
+    this.moveTo(index, event !== null);
+    if (event) this.chose(this.days[index], event.detail === 0);
   }
 
   // Shows a day as chosen, where the list has it.
@@ -92,7 +93,7 @@ class List {
       if (this.days[middle] < day) low = middle + 1;
       else high = middle;
     }
-    if (this.days[low] === day) this.choose(low, false);
+    if (this.days[low] === day) this.choose(low);
     else {
       this.chosen = -1;
       this.draw();

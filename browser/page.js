@@ -3,6 +3,7 @@
 const LINK = "#page=";
 const LONGEST_LINK = 16000;
 const MOST_PRINTED = 5000;
+const NONE = new Uint32Array(0);
 const CONDITIONS = ["weekday", ...Object.keys(SETS), ...BODIES, ...BODIES.map((body) => `true_${body}`)];
 
 const grouped = (number) => String(number).replace(/\B(?=(\d{3})+$)/g, ",");
@@ -48,7 +49,7 @@ class Page {
     this.busy = false;
     this.editor = new Editor((text) => this.setText(text));
     this.form = new Form(this.names, (change, focusKey) => this.setText(change(this.text), { focusKey }));
-    this.list = new List((days) => desk.lines(this.whole, PRINT.csv, days), (day) => this.day.open(day, false));
+    this.list = new List((days) => desk.lines(this.whole, PRINT.csv, days), (day, focus) => this.day.open(day, focus));
     this.day = new DayPanel(desk, this.names, (number, date) => this.dayShown(number, date));
     this.strip = new Strip(desk, (day) => this.day.open(day, false), (first, last) => this.askYears(first, last));
     this.newWorker();
@@ -121,8 +122,11 @@ class Page {
     this.found = null;
     if (this.busy) this.newWorker();
     clearTimeout(this.slow);
+    byId("right").setAttribute("aria-busy", "false");
     for (const id of ["results", "stop", "every"]) byId(id).hidden = true;
     for (const id of ["counts", "saved", "why-said", "day-fits"]) byId(id).textContent = "";
+    this.strip.show(NONE, this.day.number);
+    this.list.show(NONE, this.names);
     this.editor.show(text);
     this.keepLink();
     const refusal = this.desk.refusal(this.whole);
@@ -147,9 +151,9 @@ class Page {
 
   // The program's words: why the page is refused, or how it may be meant otherwise.
   say(refusal) {
-    const said = this.desk.said(this.whole).trimEnd();
-    const lines = said ? said.split("\n") : [];
     const numberOf = (line) => Number((/^line (\d+):/.exec(line) || [])[1] || 0);
+    // That nothing is asked the desk says itself, since it lists no day then.
+    const lines = this.desk.said(this.whole).split("\n").filter((line) => line && (refusal || numberOf(line)));
     const paragraphs = lines.map((line) => {
       const paragraph = made("p", { className: refusal ? "fault" : "remark", textContent: line });
       const number = numberOf(line);
@@ -168,6 +172,7 @@ class Page {
   search() {
     byId("every").hidden = true;
     byId("counts").textContent = "";
+    byId("right").setAttribute("aria-busy", "true");
     this.busy = true;
     this.slow = setTimeout(() => {
       byId("counts").textContent = WORDS.searching;
@@ -179,6 +184,7 @@ class Page {
   stop() {
     clearTimeout(this.slow);
     if (this.busy) this.newWorker();
+    byId("right").setAttribute("aria-busy", "false");
     byId("stop").hidden = true;
     byId("counts").textContent = WORDS.stopped;
   }
@@ -189,6 +195,7 @@ class Page {
     this.busy = false;
     clearTimeout(this.slow);
     byId("stop").hidden = true;
+    byId("right").setAttribute("aria-busy", "false");
     this.found = { found, looked, days };
     const counts = WORDS.counts(grouped(found), grouped(looked));
     byId("counts").textContent = found ? counts : `${counts}. ${WORDS.none}`;
@@ -318,6 +325,7 @@ async function begin() {
     const module = await compiledModule(byId("module").textContent);
     const page = new Page(await openDesk(module), module);
     const linked = page.linked();
+    page.setText("");
     page.setText(linked === null ? WORDS.examplePage : linked);
     document.documentElement.dataset.ready = "yes";
   } catch (error) {
