@@ -6,7 +6,9 @@ const DAYS = 401600;
 const PAGE_BYTES = 65536;
 
 async function compiledModule(base64) {
-  return WebAssembly.compile(Uint8Array.from(atob(base64), (letter) => letter.charCodeAt(0)));
+  const packed = Uint8Array.from(atob(base64), (letter) => letter.charCodeAt(0));
+  const stream = new Blob([packed]).stream().pipeThrough(new DecompressionStream("gzip"));
+  return WebAssembly.compile(await new Response(stream).arrayBuffer());
 }
 
 async function openDesk(module) {

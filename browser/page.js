@@ -106,7 +106,7 @@ class Page {
 
   newWorker() {
     if (this.worker) this.worker.terminate();
-    const url = URL.createObjectURL(new Blob([WORKER], { type: "text/javascript" }));
+    const url = URL.createObjectURL(new Blob([OWN_SCRIPT], { type: "text/javascript" }));
     this.worker = new Worker(url);
     URL.revokeObjectURL(url);
     this.worker.onmessage = ({ data }) => this.searched(data);
@@ -333,4 +333,4 @@ async function begin() {
   }
 }
 
-begin();
+if (!IN_WORKER) begin();
