@@ -111,8 +111,8 @@ class Form {
 
   writeSpan() {
     const [first, last] = ["span-first", "span-last"].map((id) => byId(id).value.trim());
-    const whole = (value, none, rest) => value === "" ? none : /^\d{4}$/.test(value) ? `${value}${rest}` : value;
-    this.write((text) => withLine(text, "span", first || last ? `${whole(first, "0", "-1-1")} ${whole(last, String(DAYS - 1), "-12-31")}` : null));
+    const whole = (value, open, rest) => value === "" ? this.dateOf(open) : /^\d{4}$/.test(value) ? `${value}${rest}` : value;
+    this.write((text) => withLine(text, "span", first || last ? `${whole(first, 0, "-1-1")} ${whole(last, DAYS - 1, "-12-31")}` : null));
   }
 
   addBody() {
@@ -192,7 +192,7 @@ class Form {
 
   // Fills the form from an accepted page: the module's own words for it, and the text for how an arc is written.
   fill(text, plain, dateOf, focusKey = null) {
-    this.text = text;
+    Object.assign(this, { text, dateOf });
     this.refresh = () => this.fill(text, plain, dateOf);
     for (const [word, boxes] of Object.entries(this.boxes)) {
       const asked = new Set(plain.get(word) || []);

@@ -111,6 +111,10 @@ class Page {
     URL.revokeObjectURL(url);
     this.worker.onmessage = ({ data }) => this.searched(data);
     this.worker.postMessage({ module: this.module });
+    // Where a browser lets no worker run, the page searches by itself.
+    this.worker.onerror = () => {
+      if (this.busy) this.searched({ number: this.number, ...this.desk.find(this.whole) });
+    };
     this.busy = false;
   }
 
@@ -140,7 +144,8 @@ class Page {
     this.form.fill(this.whole, plain, (day) => dateOfDay(this.desk, day), focusKey);
     this.day.edition = plain.get("edition")[0];
     if (this.day.number !== null) this.day.open(this.day.number, false);
-    const [first, last] = plain.get("span").map(Number);
+    this.span = plain.get("span").map(Number);
+    const [first, last] = this.span;
     if (CONDITIONS.some((word) => plain.has(word))) {
       this.search();
       return;
@@ -201,7 +206,7 @@ class Page {
     byId("counts").textContent = found ? counts : `${counts}. ${WORDS.none}`;
     byId("results").hidden = found === 0;
     if (found === 0) return;
-    this.strip.show(days, this.day.number);
+    this.strip.show(days, this.day.number, this.span);
     this.list.show(days, this.names);
     if (this.day.number !== null) this.list.mark(this.day.number);
   }

@@ -9,8 +9,8 @@ class Strip {
     this.desk = desk;
     this.chose = chose;
     this.canvas = byId("canvas");
-    this.days = new Uint32Array(0);
     this.starts = new Map();
+    Object.assign(this, { days: new Uint32Array(0), chosen: null, span: [0, DAYS - 1], drag: null });
     this.all();
     this.canvas.addEventListener("pointerdown", (event) => this.down(event));
     this.canvas.addEventListener("pointermove", (event) => this.move(event));
@@ -33,10 +33,8 @@ class Strip {
     this.last = this.first + Math.round(days) - 1;
   }
 
-  show(days, chosen) {
-    this.days = days;
-    this.chosen = chosen;
-    this.drag = null;
+  show(days, chosen, span = [0, DAYS - 1]) {
+    Object.assign(this, { days, chosen, span, drag: null });
     this.draw();
   }
 
@@ -92,6 +90,12 @@ class Strip {
     pen.scale(scale, scale);
     pen.font = "14px system-ui, sans-serif";
     pen.textAlign = "center";
+    // What is outside of the span that is asked for is shaded.
+    pen.fillStyle = colour("paper");
+    if (this.span[0] > this.first) pen.fillRect(0, 0, this.x(this.span[0]), MARKS);
+    if (this.span[1] < this.last) pen.fillRect(this.x(this.span[1]), 0, this.width, MARKS);
+    pen.fillStyle = colour("edge");
+    for (const end of this.span) if (end > 0 && end < DAYS - 1) pen.fillRect(this.x(end), 0, 1, MARKS);
     for (const [day, name] of this.marks(this.width)) {
       const x = this.x(day);
       pen.fillStyle = colour("hair");
