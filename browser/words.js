@@ -47,7 +47,7 @@ const WORDS = {
   true: "true",
   mean: "mean",
   shape: "Written as",
-  shapes: { sign: "in the sign", to: "from … to", width: "from …, wide" },
+  shapes: { sign: "sign", to: "from, to", width: "from, wide" },
   sign: "Sign",
   start: "from",
   end: "to",
