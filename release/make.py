@@ -45,10 +45,19 @@ def commit(root=ROOT):
     return said("git", "rev-parse", "HEAD", root=root)
 
 
+def lines(root):
+    text = (root / "release" / "files").read_text(encoding="utf-8")
+    return [line.split() for line in text.splitlines() if line and not line.startswith("#")]
+
+
 def listed(root=ROOT):
-    """The lines of release/files: mode, place, what is taken."""
-    lines = (root / "release" / "files").read_text(encoding="utf-8").splitlines()
-    return [tuple(line.split()) for line in lines if line and not line.startswith("#")]
+    """What release/files lists: mode, place, what is taken."""
+    return [words for words in lines(root) if words[0] != "build"]
+
+
+def builders(root=ROOT):
+    """The commands by which what the gate builds is built anew."""
+    return [words[1:] for words in lines(root) if words[0] == "build"]
 
 
 def built(taken):
@@ -82,9 +91,9 @@ def leave_gate(begun, counts, root=ROOT):
         raise Failed(f"the gate has not passed: {counts}")
     if commit(root) != begun:
         raise Failed("another commit is checked out than the one on which the gate began")
-    lines = [f"commit {begun}", f"tree {said('git', 'rev-parse', 'HEAD^{tree}', root=root)}", f"rt {said('rt', 'version', root=root)}", f"logic {logic(root)}", f"gate {counts}"]
-    lines += [f"file {sha256(root / taken)} {taken}" for _, _, taken in listed(root) if built(taken) and (root / taken).is_file()]
-    (root / "target" / "gate").write_text("".join(f"{line}\n" for line in lines), encoding="utf-8")
+    left = [f"commit {begun}", f"tree {said('git', 'rev-parse', 'HEAD^{tree}', root=root)}", f"rt {said('rt', 'version', root=root)}", f"logic {logic(root)}", f"gate {counts}"]
+    left += [f"file {sha256(root / taken)} {taken}" for _, _, taken in listed(root) if built(taken) and (root / taken).is_file()]
+    (root / "target" / "gate").write_text("".join(f"{line}\n" for line in left), encoding="utf-8")
 
 
 def gate(root=ROOT):
@@ -128,24 +137,28 @@ def contents(sums, root=ROOT):
     return made
 
 
-def hold_version(version, root=ROOT):
-    """The version is the header's own, and has its row in the table of releases."""
-    text = (root / HEADER).read_text(encoding="utf-8")
-    found = re.search(r"^#define GRAHA_VERSION (\d+)$", text, re.M)
+def header_version(root=ROOT):
+    """The version of the header's number: 1.4.2 of 10402."""
+    found = re.search(r"^#define GRAHA_VERSION (\d+)$", (root / HEADER).read_text(encoding="utf-8"), re.M)
     if not found:
         raise Failed(f"missing: GRAHA_VERSION in {HEADER}")
-    major, minor, patch = map(int, version.split("."))
-    if int(found[1]) != 10000 * major + 100 * minor + patch:
-        raise Failed(f"{HEADER} has GRAHA_VERSION {found[1]}, which is not {version}")
+    number = int(found[1])
+    return f"{number // 10000}.{number // 100 % 100}.{number % 100}"
+
+
+def hold_version(version, root=ROOT):
+    """The version is the header's own, and has its row in the table of releases."""
+    if header_version(root) != version:
+        raise Failed(f"GRAHA_VERSION in {HEADER} is that of {header_version(root)}, not of {version}")
     if not re.search(rf"^\| {re.escape(version)} \|", (root / RELEASES).read_text(encoding="utf-8"), re.M):
         raise Failed(f"missing: the row of {version} in {RELEASES}")
 
 
 def manifest(head, made):
     """MANIFEST: its head, and the files in the order of their names. (No name has a character beyond ASCII.)"""
-    lines = [f"{word} {head[word]}" for word in ("pierheather-release", "version", "commit", "date", "rt", "logic", "gate")]
-    lines += ["", *(f"{hashlib.sha256(body).hexdigest()} {len(body)} {mode} {place}" for place, (mode, body) in sorted(made.items()))]
-    return "".join(f"{line}\n" for line in lines)
+    made_of = [f"{word} {head[word]}" for word in ("pierheather-release", "version", "commit", "date", "rt", "logic", "gate")]
+    made_of += ["", *(f"{hashlib.sha256(body).hexdigest()} {len(body)} {mode} {place}" for place, (mode, body) in sorted(made.items()))]
+    return "".join(f"{line}\n" for line in made_of)
 
 
 def write_folder(folder, text, made):

@@ -8,6 +8,10 @@ import subprocess
 
 import make
 
+# git is asked about the trees made here, also where a hook of another repository runs this.
+for name in [name for name in os.environ if name.startswith("GIT_")]:
+    del os.environ[name]
+
 LOGIC = "0123456789abcdef"
 # What a tree has of the repository.
 PARTS = ("release", "docs", "include", "examples", "man", "crates.txt", ".gitignore")
