@@ -16,6 +16,9 @@ VERSION = re.compile(r"(0|[1-9]\d?)\.(0|[1-9]\d?)\.(0|[1-9]\d?)")
 PATH = re.compile(r"(?=.{1,60}$)[A-Za-z0-9][A-Za-z0-9._+-]*(?:/[A-Za-z0-9][A-Za-z0-9._+-]*)*")
 HEADER = "include/grahalaghava.h"
 RELEASES = "docs/releases.md"
+# The kind of an ELF file's part that names the loader: a static program has none.
+INTERPRETED = 3
+NEWEST_GLIBC = 31
 
 
 class Failed(Exception):
@@ -31,6 +34,19 @@ def said(*words, root=ROOT):
     if done.returncode:
         raise Failed(f"{words[0]}: {(done.stderr.strip() or 'it failed').splitlines()[-1]}")
     return done.stdout.rstrip("\n")
+
+
+def hold_program(path):
+    """A program runs on every x86-64 Linux that a release is for: it is static, or wants no C library newer than glibc
+    2.31. (A script of a rehearsal is no program.)"""
+    body = path.read_bytes()
+    if body[:4] != b"\x7fELF":
+        return
+    first, size, count = int.from_bytes(body[32:40], "little"), int.from_bytes(body[54:56], "little"), int.from_bytes(body[56:58], "little")
+    kinds = [int.from_bytes(body[at:at + 4], "little") for at in range(first, first + size * count, size)]
+    newest = max((int(number) for number in re.findall(rb"GLIBC_2\.(\d+)", body)), default=0)
+    if INTERPRETED in kinds and newest > NEWEST_GLIBC:
+        raise Failed(f"{path.parent.name}/{path.name} wants glibc 2.{newest}, and may want 2.{NEWEST_GLIBC} or be static")
 
 
 def folder_of(version):
@@ -208,6 +224,7 @@ def build(version, root=ROOT):
     folder.parent.mkdir(parents=True, exist_ok=True)
     try:
         write_folder(folder, text, made)
+        hold_program(folder / "bin" / "pierheather")
         words = said(str(folder / "bin" / "pierheather"), "--version", root=root).split()
         unsaid = [word for word in (version, left["commit"], left["logic"]) if word not in words]
         if unsaid:
