@@ -1,4 +1,6 @@
 // Almanac files, paper 02's: days one after another in blocks of 512 bytes, written, and read whole or block by block.
+#![tactic(auto)]
+
 ghost use Rattle.std.specs.Prelude.{◌≡◌, ◌+◌, ◌*◌, ◌≤◌, min, length};
 ghost use Rattle.days.specs.Days.{days_from};
 ghost use Rattle.entries.specs.Entries.{capacity, with_entries_from};
@@ -11,7 +13,7 @@ use days::{NumberAnswer, refusal};
 
 // The length of the file, in bytes, or of the list, in days, where the call is not refused, or refused with 7. The last
 // number, which in the search tells the days examined, is always 0.
-#[derive(Drop)]
+#[derive(Clone, Copy)]
 pub struct Transfer {
     pub refusal: u32,
     pub length: u32,
@@ -22,7 +24,7 @@ pub struct Transfer {
 // of the first bad block, and the block that was looked at
 // last. `broken` says that the length cannot be right any more: a piece was no block, or there are more blocks than the
 // count demands.
-#[derive(Drop)]
+#[derive(Clone, Copy)]
 pub struct Reader {
     pub broken: bool,
     pub blocks: u32,
@@ -33,7 +35,7 @@ pub struct Reader {
 }
 
 // What is read of a file: its days, or its refusal with zeros.
-#[derive(Drop)]
+#[derive(Clone, Copy)]
 pub struct Reading {
     pub refusal: u32,
     pub first: u32,

@@ -1,4 +1,6 @@
 // Reads an almanac file from standard input, of any length, and prints its days as a month's sheet has them.
+#![tactic(auto)]
+
 ghost use Rattle.output.specs.Output.{AllWritten};
 ghost use Rattle.text.specs.Sheets.{Between};
 ghost use Rattle.almanac_sheet.specs.AlmanacSheets.{reading_lines};

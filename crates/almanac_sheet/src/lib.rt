@@ -1,5 +1,7 @@
 // What is printed and said of an almanac file: a month's heading and a line for each of its days, or its refusal and
 // the block at fault.
+#![tactic(auto)]
+
 ghost use Rattle.std.specs.Prelude.{◌≡◌, length};
 ghost use Rattle.text.specs.Lines.{with_bytes, Holds};
 ghost use Rattle.text.specs.Sheets.{line_at};

@@ -1,4 +1,6 @@
 // The server's program: reads a span and writes its almanac file, block by block.
+#![tactic(auto)]
+
 ghost use Rattle.std.specs.Prelude.{◌≡◌, replicate};
 ghost use Rattle.almanac.specs.Files.{block_written};
 

@@ -1,5 +1,7 @@
 // Orders for the arms of a planet table: to hold, to go to a body's angle, or to run at its rate, in degrees as 64-bit
 // floats.
+#![tactic(auto)]
+
 ghost use Rattle.std.specs.Prelude.{◌≡◌, ◌+◌, ◌≤◌, ◌<◌};
 ghost use Rattle.days.specs.Days.{last_day};
 ghost use Rattle.longitudes.specs.Longitudes.{difference_of};
@@ -15,7 +17,7 @@ use panchanga::FIRST_EDITION;
 use planets::Planet;
 
 // What an arm is told: to stay where it is, to go to an angle, or to run on at a rate.
-#[derive(Drop)]
+#[derive(Clone, Copy)]
 pub enum Order {
     Hold,
     Go(f64),
@@ -23,21 +25,21 @@ pub enum Order {
 }
 
 // Its angle in degrees, and its rate in degrees a day.
-#[derive(Drop)]
+#[derive(Clone, Copy)]
 pub struct Arm {
     pub angle: f64,
     pub rate: f64,
 }
 
 // An order, or a refusal's number and the order to hold.
-#[derive(Drop)]
+#[derive(Clone, Copy)]
 pub struct OrderAnswer {
     pub refusal: u32,
     pub order: Order,
 }
 
 // An arm, or a refusal's number and all zeros.
-#[derive(Drop)]
+#[derive(Clone, Copy)]
 pub struct ArmAnswer {
     pub refusal: u32,
     pub arm: Arm,
@@ -144,7 +146,7 @@ const PARTS: u64 = 8388608;
 
 // What a body's whole seconds are reckoned from, with no division by its own q: its longitude at the epoch, what a
 // cycle adds, and a day's motion in parts, rounded up.
-#[derive(Drop)]
+#[derive(Clone, Copy)]
 struct Steps {
     epoch: u32,
     cycle: u32,

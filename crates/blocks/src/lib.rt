@@ -1,5 +1,7 @@
 // A block of an almanac file, paper 02's: 512 bytes with up to nine days, a block's number among the blocks, the days
 // of the whole file, and a checksum.
+#![tactic(auto)]
+
 ghost use Rattle.std.specs.Prelude.{◌≡◌, ◌+◌, ◌-◌, ◌*◌, ◌≤◌, ◌<◌, length, take, drop, replicate};
 ghost use Rattle.days.specs.Days.{last_day, days_from};
 ghost use Rattle.entries.specs.Entries.{with_entries_from};

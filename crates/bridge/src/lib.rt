@@ -5,6 +5,8 @@
 // They are the first and the last day; for weekdays, tithi, nakshatra and yoga: given (0 no, any other number yes) and
 // set; for each body its first arc: given, start and width; the edition; for each body its second arc; for karanas
 // given and set; and for each true longitude its first and its second arc.
+#![tactic(auto)]
+
 mod blocks;
 mod bodies;
 mod drifts;

@@ -5,7 +5,7 @@ ghost use Rattle.bridge.specs.Numbers.{BridgeLook};
 
 use days::refusal;
 
-#[derive(Drop)]
+#[derive(Clone, Copy)]
 struct Look {
     result: u32,
     matches: u32,

@@ -9,7 +9,7 @@ use query::BodyArcs;
 use reasons::{Answer, Reason};
 
 // What shuts the day out: the condition's number, the values asked, in six places, and the value found.
-#[derive(Drop)]
+#[derive(Clone, Copy)]
 struct Cause {
     condition: u32,
     asked: [u32; 6],
@@ -17,7 +17,7 @@ struct Cause {
 }
 
 // The answer in numbers; a refusal has all zeros.
-#[derive(Drop)]
+#[derive(Clone, Copy)]
 struct Numbers {
     result: u32,
     edition: u32,

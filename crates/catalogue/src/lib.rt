@@ -1,4 +1,6 @@
 // A catalogue of days, in one of three forms: its heading and its lines, put piece by piece into a lent buffer.
+#![tactic(auto)]
+
 ghost use Rattle.std.specs.Prelude.{◌≡◌, true, cond, ◌+◌, ◌≤◌, ltb};
 ghost use lib.ListN.{length};
 ghost use Rattle.std.proofs.Math.Seq.{paste};
@@ -152,7 +154,7 @@ fn day_line(print: Print, edition: u32, day: u32) -> Line
 }
 
 // What was put at the front of a buffer: how many bytes, and which entry comes next.
-#[derive(Drop)]
+#[derive(Clone, Copy)]
 pub struct Piece {
     pub refusal: u32,
     pub bytes: usize,

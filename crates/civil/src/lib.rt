@@ -1,4 +1,6 @@
 // Civil dates: Julian up to 4 October 1582, Gregorian from 15 October 1582.
+#![tactic(auto)]
+
 ghost use Rattle.std.specs.Prelude.{◌≡◌, ◌+◌, ◌*◌, ◌≤◌, ◌<◌};
 ghost use Rattle.days.specs.Days.{last_day};
 ghost use Rattle.civil.specs.Calendar.{leap, month_days, lost, date_exists, date_on};
@@ -7,7 +9,7 @@ ghost use Rattle.civil.specs.Serial.{since_march, march_year, year_start, before
 
 use days::{Day, NumberAnswer, refusal};
 
-#[derive(Drop)]
+#[derive(Clone, Copy)]
 pub struct Date {
     pub year: u32,
     pub month: u32,
@@ -15,7 +17,7 @@ pub struct Date {
 }
 
 // A refusal's number, or 0, beside the date; a refusal has all zeros.
-#[derive(Drop)]
+#[derive(Clone, Copy)]
 pub struct DateAnswer {
     pub refusal: u32,
     pub date: Date,

@@ -1,5 +1,7 @@
 // Dates to days and days to dates, one case to a line: month ends of common and leap years on both sides of 1582, then
 // single dates, then days.
+#![tactic(auto)]
+
 use civil::Date;
 use days::refusal;
 

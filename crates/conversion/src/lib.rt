@@ -1,5 +1,7 @@
 // Lines of dates to lines of days, and lines of days to lines of dates, up to 4,096 of them: what the two programs
 // print and say.
+#![tactic(auto)]
+
 ghost use Rattle.std.specs.Prelude.{◌≡◌, length};
 ghost use Rattle.text.specs.Lines.{with_bytes, Holds, refusal_line};
 ghost use Rattle.date_lines.specs.Texts.{with_front};

@@ -1,5 +1,7 @@
 // A list of days as lines of text, and lines as a list: a line is an ISO date, or a day's number. All or nothing: a
 // refusal writes nothing.
+#![tactic(auto)]
+
 ghost use Rattle.std.specs.Prelude.{◌≡◌, ◌++◌, ◌+◌, ◌-◌, ◌*◌, ◌≤◌, ◌<◌, min, length, take, drop};
 ghost use Rattle.days.specs.Days.{last_day};
 ghost use Rattle.entries.specs.Entries.{with_entries_from};
@@ -14,7 +16,7 @@ use days::{Day, NumberAnswer, refusal};
 use text::Line;
 
 // What stands on the lines.
-#[derive(Drop)]
+#[derive(Clone, Copy)]
 pub enum Kind {
     Dates,
     Days,
@@ -22,7 +24,7 @@ pub enum Kind {
 
 // A refusal's number, or 0. Of lines that are refused, the first at fault, counted from 1. How many entries or bytes
 // were written; by 7 how many would do.
-#[derive(Drop)]
+#[derive(Clone, Copy)]
 pub struct Converted {
     pub refusal: u32,
     pub line: usize,
@@ -240,7 +242,7 @@ fn sum(a: usize, b: usize) -> usize
 }
 
 // What is left of the room for lines, and how much more they need.
-#[derive(Drop)]
+#[derive(Clone, Copy)]
 struct Room {
     left: usize,
     more: usize,

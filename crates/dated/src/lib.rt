@@ -1,5 +1,7 @@
 // A day as a line names it: its number, its date, and its weekday's name; its number and its date as a table has them;
 // and an angle as a page writes it.
+#![tactic(auto)]
+
 ghost use Rattle.std.specs.Prelude.{◌≡◌};
 ghost use Rattle.text.specs.Lines.{with_bytes};
 ghost use Rattle.names.specs.Columns.{aligned};

@@ -1,4 +1,6 @@
 // Reads ISO dates, a line each, and prints their days.
+#![tactic(auto)]
+
 use date_lines::Kind;
 
 fn main() {

@@ -1,4 +1,5 @@
 // The day sheet's program: reads an input and prints its sheet.
+#![tactic(auto)]
 
 // A good input has at most seven bytes: the eighth shows a longer one.
 fn main() {

@@ -1,4 +1,6 @@
 // The days 0 to 401,599, as pairs of a cycle and a day within it.
+#![tactic(auto)]
+
 pub mod refusal;
 
 ghost use Rattle.std.specs.Prelude.{◌≡◌};
@@ -7,20 +9,20 @@ ghost use Rattle.days.specs.Weekdays.{bit_of, in_set};
 
 // A cycle from 0 to 99 and a day within it from 0 to 4015: paper 01's pair (C, A). Any other pair is refused wherever
 // it is taken.
-#[derive(Drop)]
+#[derive(Clone, Copy)]
 pub struct Day {
     pub cycle: u32,
     pub within: u32,
 }
 
 // An answer is a refusal's number, or 0, beside the values; a refusal has all zeros.
-#[derive(Drop)]
+#[derive(Clone, Copy)]
 pub struct DayAnswer {
     pub refusal: u32,
     pub day: Day,
 }
 
-#[derive(Drop)]
+#[derive(Clone, Copy)]
 pub struct NumberAnswer {
     pub refusal: u32,
     pub number: u32,

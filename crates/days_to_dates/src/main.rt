@@ -1,4 +1,6 @@
 // Reads days, a line each, and prints their ISO dates.
+#![tactic(auto)]
+
 use date_lines::Kind;
 
 fn main() {

@@ -1,4 +1,6 @@
 // Reads a span of days and prints how far the mean Sun, Moon and Moon's apogee are from the older books' over it.
+#![tactic(auto)]
+
 ghost use Rattle.output.specs.Output.{AllWritten};
 ghost use Rattle.text.specs.Sheets.{Between};
 ghost use Rattle.drift_sheet.specs.DriftSheets.{drift_lines_for};

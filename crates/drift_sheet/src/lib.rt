@@ -1,4 +1,6 @@
 // The sheet of the three drifts over a span of days: what is printed for an input, line by line.
+#![tactic(auto)]
+
 ghost use Rattle.std.specs.Prelude.{◌≡◌, length};
 ghost use Rattle.text.specs.Lines.{Holds};
 ghost use Rattle.text.specs.Sheets.{line_at};

@@ -1,4 +1,6 @@
 // The engravers' program: reads a day and prints its plate.
+#![tactic(auto)]
+
 ghost use Rattle.output.specs.Output.{AllWritten};
 ghost use Rattle.text.specs.Sheets.{Between};
 ghost use Rattle.plate.specs.Plates.{plate_lines};

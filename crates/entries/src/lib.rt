@@ -1,4 +1,6 @@
 // A list of days as bytes: four a day, low byte first. A tail under four bytes is no entry.
+#![tactic(auto)]
+
 ghost use Rattle.std.specs.Prelude.{◌≡◌, ◌<◌};
 ghost use Rattle.entries.specs.Entries.{with_entry, entry_day, entry_at};
 

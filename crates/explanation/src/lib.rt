@@ -1,4 +1,6 @@
 // The line that says why a day is not in a query's list, or that it fits; with elements by number, or by name.
+#![tactic(auto)]
+
 ghost use Rattle.std.specs.Prelude.{◌≡◌, ◌+◌, ◌≤◌, length};
 ghost use Rattle.days.specs.Days.{last_day};
 ghost use Rattle.text.specs.Lines.{contents, with_bytes, Holds};
@@ -20,7 +22,7 @@ pub const ROOM: usize = 1024;
 
 // A condition of an element that does not hold, by the edition in which it was looked at, and the numbers asked and
 // found; or any other answer.
-#[derive(Drop)]
+#[derive(Clone, Copy)]
 enum Element {
     Unmet {
         kind: Kind,

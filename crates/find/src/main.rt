@@ -1,4 +1,6 @@
 // Reads a page from standard input and prints the days that it can be.
+#![tactic(auto)]
+
 ghost use Rattle.std.specs.Prelude.{◌≡◌, true, ◌+◌, ◌<◌, ◌≤◌, length};
 ghost use Rattle.query.specs.Query.{refusal_of};
 ghost use Rattle.query.specs.SunArcs.{with_sun_arcs};
@@ -28,7 +30,7 @@ const PART: u32 = 131072;
 const BUFFER: usize = 16384;
 
 // How far the output is written: how many bytes of it, and whether no write failed.
-#[derive(Drop)]
+#[derive(Clone, Copy)]
 struct Written {
     bytes: usize,
     whole: bool,

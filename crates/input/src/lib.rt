@@ -1,10 +1,12 @@
 // Standard input, read whole or piece by piece.
+#![tactic(auto)]
+
 ghost use Rattle.io.specs.Counts.{IsPrefixLen};
 
 use libc::STDIN_FILENO;
 
 // How many bytes a buffer has of the input, and whether a read failed before it was full or the input at its end.
-#[derive(Drop)]
+#[derive(Clone, Copy)]
 pub struct Piece {
     pub bytes: usize,
     pub failed: bool,

@@ -1,5 +1,7 @@
 // ISO 8601 dates: Gregorian years, before 1582 too. A date is a civil `Date`, a year, a month and a day; what they mean
 // is said by the function that takes it.
+#![tactic(auto)]
+
 ghost use Rattle.std.specs.Prelude.{◌≡◌};
 ghost use Rattle.iso.specs.Calendar.{iso_exists, iso_day_of, iso_on, iso_date_of};
 

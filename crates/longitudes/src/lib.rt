@@ -1,5 +1,7 @@
 // The mean longitudes of the nine bodies: paper 01's mean places, in whole seconds of arc, with paper 02's part of a
 // second.
+#![tactic(auto)]
+
 ghost use Rattle.std.specs.Prelude.{◌≡◌, true, ◌*◌, ◌/◌, ◌<◌};
 ghost use Rattle.days.specs.Days.{in_range};
 ghost use Rattle.longitudes.specs.Longitudes.{difference_of};
@@ -13,7 +15,7 @@ pub const CIRCLE: u32 = 1296000;
 // How many bodies there are.
 pub const BODIES: usize = 9;
 
-#[derive(Drop)]
+#[derive(Clone, Copy)]
 pub enum Body {
     Sun,
     Moon,
@@ -41,7 +43,7 @@ pub const IN_ORDER: [Body; BODIES] = [
 
 // One body's: its whole seconds, and what was left over of the exact longitude, as a fraction of a second with this
 // divisor. A refusal has all zeros.
-#[derive(Drop)]
+#[derive(Clone, Copy)]
 pub struct MeanLongitude {
     pub refusal: u32,
     pub seconds: u32,
@@ -50,7 +52,7 @@ pub struct MeanLongitude {
 }
 
 // The nine in the order of `Body`, whole seconds and thirds; a refusal has all zeros.
-#[derive(Drop)]
+#[derive(Clone, Copy)]
 pub struct MeanLongitudes {
     pub refusal: u32,
     pub longitudes: [u32; BODIES],
@@ -58,7 +60,7 @@ pub struct MeanLongitudes {
 }
 
 // A body's longitude at the epoch, the cycle's amount, and its motion a day, p / q forwards.
-#[derive(Drop)]
+#[derive(Clone, Copy)]
 pub struct Motion {
     pub k: u32,
     pub d: u32,

@@ -1,4 +1,5 @@
 // Reads a day, and an edition if one is given, and prints the lunar month's start before it.
+#![tactic(auto)]
 
 fn main() {
     let mut buffer = [0u8; text::TOO_LONG];

@@ -1,4 +1,6 @@
 // The sheet of a lunar month: what is printed for an input that asks for a day.
+#![tactic(auto)]
+
 ghost use Rattle.std.specs.Prelude.{◌≡◌, ◌≤◌};
 ghost use Rattle.days.specs.Days.{last_day};
 ghost use Rattle.text.specs.Lines.{Holds};
@@ -11,7 +13,7 @@ use text::{Line, TOO_LONG};
 use words::{after_word, first_word, run_length, up_to};
 
 // What an input asks: a refusal's number, or 0, and the day and the edition. A refusal has zeros.
-#[derive(Drop)]
+#[derive(Clone, Copy)]
 struct Asked {
     refusal: u32,
     day: u32,

@@ -1,4 +1,6 @@
 // The days on which a lunar month starts, kept in a lent list: paper 02's row of month turns.
+#![tactic(auto)]
+
 ghost use Rattle.std.specs.Prelude.{◌≡◌, true, ◌+◌, ◌/◌, ◌≤◌, ◌<◌};
 ghost use Rattle.days.specs.Days.{last_day, in_range};
 ghost use Rattle.entries.specs.Entries.{capacity, entry_day, with_entries_from};
@@ -18,7 +20,7 @@ const DAYS: u32 = Day::LAST + 1;
 
 // A row: its edition, how many month starts its list has, four bytes each, and how many days it covers, from day 0 on.
 // Any numbers are taken at their word.
-#[derive(Drop)]
+#[derive(Clone, Copy)]
 pub struct Months {
     pub edition: u32,
     pub starts: usize,
@@ -26,7 +28,7 @@ pub struct Months {
 }
 
 // A refusal has zeros; with 7 `starts` tells how many entries would do.
-#[derive(Drop)]
+#[derive(Clone, Copy)]
 pub struct MonthsAnswer {
     pub refusal: u32,
     pub months: Months,
@@ -34,7 +36,7 @@ pub struct MonthsAnswer {
 
 // The month of a day: the latest month start at or before it and how many there were up to it; no start so far; or a
 // refusal, with 7 the number of entries that would do, else 0.
-#[derive(Drop)]
+#[derive(Clone, Copy)]
 pub enum MonthAt {
     Start { day: u32, number: usize },
     NoStart,
@@ -42,7 +44,7 @@ pub enum MonthAt {
 }
 
 // An answer in numbers.
-#[derive(Drop)]
+#[derive(Clone, Copy)]
 pub struct MonthNumbers {
     pub refusal: u32,
     pub start: u32,
@@ -50,7 +52,7 @@ pub struct MonthNumbers {
 }
 
 // A day's mean longitudes that a tithi is made of.
-#[derive(Drop)]
+#[derive(Clone, Copy)]
 struct Means {
     sun: u32,
     moon: u32,
@@ -58,7 +60,7 @@ struct Means {
 }
 
 // The month starts found among some days: how many, and the latest, or 0.
-#[derive(Drop)]
+#[derive(Clone, Copy)]
 struct Added {
     count: u32,
     latest: u32,

@@ -1,4 +1,6 @@
 // What is said of a page on standard error.
+#![tactic(auto)]
+
 ghost use Rattle.std.specs.Prelude.{◌≡◌};
 ghost use Rattle.text.specs.Lines.{with_bytes, Holds};
 ghost use Rattle.words.specs.Names.{body_names, true_names};

@@ -1,4 +1,6 @@
 // The almanac desk's program: reads a first day and prints thirty days' records.
+#![tactic(auto)]
+
 ghost use Rattle.output.specs.Output.{AllWritten};
 ghost use Rattle.text.specs.Sheets.{Between};
 ghost use Rattle.month_sheet.specs.MonthSheets.{month_lines_for};

@@ -1,4 +1,6 @@
 // The almanac desk's sheet of a month: what is printed for an input, line by line.
+#![tactic(auto)]
+
 ghost use Rattle.std.specs.Prelude.{◌≡◌, length};
 ghost use Rattle.text.specs.Lines.{Holds};
 ghost use Rattle.text.specs.Sheets.{line_at};

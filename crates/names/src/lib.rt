@@ -1,5 +1,7 @@
 // The tithis, nakshatras, yogas, karanas, signs, lunar months, their halves and weekdays by name: the number of a name,
 // in two spellings and any letter case, and the name of a number, as it is, in a column and in quotes.
+#![tactic(auto)]
+
 mod tables;
 
 ghost use Rattle.std.specs.Prelude.{◌≡◌};
@@ -18,7 +20,7 @@ use text::Line;
 use words::{WEEKDAYS, name_at, place_in};
 
 // What a name is of.
-#[derive(Drop)]
+#[derive(Clone, Copy)]
 pub enum Kind {
     Tithi,
     Nakshatra,
@@ -32,7 +34,7 @@ pub enum Kind {
 
 // How the elements of a day are printed: by their numbers, by their names in columns, or by both in a comma-separated
 // table.
-#[derive(Drop)]
+#[derive(Clone, Copy)]
 pub enum Print {
     Numbers,
     Names,

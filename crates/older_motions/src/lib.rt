@@ -1,5 +1,7 @@
 // How far the mean longitudes of the Sun, the Moon and the Moon's apogee are from the older books' motions: paper 02's
 // drift, without a decimal.
+#![tactic(auto)]
+
 ghost use Rattle.std.specs.Prelude.{◌≡◌, ◌+◌, ◌-◌, ◌%◌, ◌≤◌, ◌<◌};
 ghost use Rattle.days.specs.Days.{last_day};
 ghost use Rattle.older_motions.specs.OlderMotions.{divisor_of, whole_circle, ahead_on, shorter_way};
@@ -10,7 +12,7 @@ use days::{Day, refusal};
 use longitudes::{CIRCLE, Motion};
 
 // The largest distance over a span, as a fraction of a second of arc, and the first day that has it.
-#[derive(Drop)]
+#[derive(Clone, Copy)]
 pub struct Farthest {
     pub numerator: u64,
     pub divisor: u64,
@@ -18,7 +20,7 @@ pub struct Farthest {
 }
 
 // A refusal has all zeros.
-#[derive(Drop)]
+#[derive(Clone, Copy)]
 pub struct Drifts {
     pub refusal: u32,
     pub sun: Farthest,
@@ -27,7 +29,7 @@ pub struct Drifts {
 }
 
 // A body's row of the mean longitudes, and its older motion: so many circles in so many days.
-#[derive(Drop)]
+#[derive(Clone, Copy)]
 struct CodedMotion {
     mean: Motion,
     circles: u64,
@@ -35,7 +37,7 @@ struct CodedMotion {
 }
 
 // A day on the way through a span: how far ahead its mean longitude is, and the next day that begins a cycle.
-#[derive(Drop)]
+#[derive(Clone, Copy)]
 struct Scan {
     ahead: u64,
     turn: u32,

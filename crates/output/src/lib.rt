@@ -1,4 +1,6 @@
 // Lines written to standard output and to standard error, and the lines of a sheet, many at once.
+#![tactic(auto)]
+
 ghost use Rattle.std.specs.Prelude.{◌≡◌};
 ghost use Rattle.text.specs.Lines.{contents, Holds};
 ghost use Rattle.output.specs.Output.{not_written};
@@ -7,7 +9,7 @@ use libc::{STDERR_FILENO, STDOUT_FILENO};
 use text::Line;
 
 // How far a sheet is printed: how many of its lines, and whether no write failed.
-#[derive(Drop)]
+#[derive(Clone, Copy)]
 pub struct Written {
     pub lines: usize,
     pub whole: bool,

@@ -1,4 +1,6 @@
 // A torn almanac page as a person writes it down: the text of a page to a query.
+#![tactic(auto)]
+
 ghost use Rattle.std.specs.Prelude.{◌≡◌, ◌<◌, ◌≤◌};
 ghost use Rattle.words.specs.Words.{place_in};
 ghost use Rattle.page.specs.Names.{keywords};
@@ -73,7 +75,7 @@ const TO: [u8; 2] = *b"to";
 
 // A page that has been read: the refusal's number, or 0, why a line is refused, the line at fault, counted from 1, the
 // query, and how its days are printed. A refusal has a query of all zeros, and numbers.
-#[derive(Drop)]
+#[derive(Clone, Copy)]
 pub struct PageRead {
     pub refusal: u32,
     pub reason: u32,
@@ -84,7 +86,7 @@ pub struct PageRead {
 
 // The values of a line that have been read: two numbers, of which a set of weekdays or of numbers is the first, or a
 // body's arcs. A refusal has all zeros.
-#[derive(Drop)]
+#[derive(Clone, Copy)]
 struct Values {
     refusal: u32,
     first: u32,
@@ -93,7 +95,7 @@ struct Values {
 }
 
 // An arc that has been read, or was not to be read.
-#[derive(Drop)]
+#[derive(Clone, Copy)]
 struct ArcRead {
     read: bool,
     arc: Arc,
@@ -105,7 +107,7 @@ const NOT_READ: ArcRead = ArcRead {
 };
 
 // A line that has been read: its keyword and its values. A line without a keyword has KEYWORD_COUNT.
-#[derive(Drop)]
+#[derive(Clone, Copy)]
 struct LineRead {
     refusal: u32,
     reason: u32,
@@ -114,7 +116,7 @@ struct LineRead {
 }
 
 // A refusal, and the line that it comes from.
-#[derive(Drop)]
+#[derive(Clone, Copy)]
 struct Fault {
     refusal: u32,
     reason: u32,
@@ -122,7 +124,7 @@ struct Fault {
 }
 
 // What the lines so far mean, and which keywords they have.
-#[derive(Drop)]
+#[derive(Clone, Copy)]
 struct Page {
     fault: Fault,
     present: [bool; KEYWORD_COUNT],

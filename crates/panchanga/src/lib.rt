@@ -1,5 +1,7 @@
 // The true Sun and Moon, and the panchanga elements of a day: paper 01's limbs. What hangs on the Moon is of an
 // edition, paper 01's rule or paper 02's second one.
+#![tactic(auto)]
+
 ghost use Rattle.std.specs.Prelude.{◌≡◌, true, ◌/◌, ◌%◌, ◌<◌, ◌≤◌};
 ghost use Rattle.days.specs.Days.{in_range};
 ghost use Rattle.longitudes.specs.Longitudes.{circle, difference_of, longitude_at};
@@ -13,7 +15,7 @@ use days::{Day, NumberAnswer, refusal};
 use longitudes::{Body, CIRCLE};
 
 // The true Sun and Moon; a refusal has all zeros.
-#[derive(Drop)]
+#[derive(Clone, Copy)]
 pub struct Lights {
     pub refusal: u32,
     pub sun: u32,
@@ -21,7 +23,7 @@ pub struct Lights {
 }
 
 // Sun and Moon are true longitudes; a refusal has all zeros.
-#[derive(Drop)]
+#[derive(Clone, Copy)]
 pub struct Panchanga {
     pub refusal: u32,
     pub sun: u32,

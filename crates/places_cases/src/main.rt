@@ -1,6 +1,8 @@
 // The mean longitudes, true places and elements of some days, one day a line: the single calls behind the calls for all
 // at once.
 // The expected lines were reckoned apart, with exact fractions.
+#![tactic(auto)]
+
 use days::{Day, NumberAnswer};
 use libc::STDOUT_FILENO;
 use longitudes::{Body, MeanLongitude};

@@ -1,5 +1,7 @@
 // The true longitudes of the five star planets: paper 02's steps, half the śīghra correction, the manda correction and
 // the whole śīghra correction, by its tables.
+#![tactic(auto)]
+
 ghost use Rattle.std.specs.Prelude.{◌≡◌, true, ◌+◌, ◌*◌, ◌%◌, ◌≤◌, ◌<◌, length};
 ghost use Rattle.days.specs.Days.{in_range};
 ghost use Rattle.longitudes.specs.Longitudes.{difference_of, longitude_at};
@@ -15,7 +17,7 @@ use longitudes::{Body, CIRCLE};
 
 pub const PLANETS: usize = 5;
 
-#[derive(Drop)]
+#[derive(Clone, Copy)]
 pub enum Planet {
     Mars,
     Mercury,
@@ -25,7 +27,7 @@ pub enum Planet {
 }
 
 // The five in the order of `Planet`; a refusal has all zeros.
-#[derive(Drop)]
+#[derive(Clone, Copy)]
 pub struct TrueLongitudes {
     pub refusal: u32,
     pub longitudes: [u32; PLANETS],

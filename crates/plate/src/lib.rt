@@ -1,4 +1,6 @@
 // The engravers' plate: a day's nine mean longitudes in degrees, minutes, seconds and thirds, line by line.
+#![tactic(auto)]
+
 ghost use Rattle.std.specs.Prelude.{◌≡◌, ◌<◌, length};
 ghost use Rattle.text.specs.Lines.{Holds};
 ghost use Rattle.text.specs.Sheets.{line_at};

@@ -1,4 +1,6 @@
 // A query: its conditions, their ranges, and whether a day meets them.
+#![tactic(auto)]
+
 ghost use Rattle.std.specs.Prelude.{◌≡◌, true, ◌&&◌, ◌≤◌, min, leb};
 ghost use Rattle.days.specs.Days.{last_day, weekday_on, in_range};
 ghost use Rattle.longitudes.specs.Longitudes.{longitude_at};
@@ -34,7 +36,7 @@ const LARGEST_EQUATION: u32 = 7845;
 
 // Numbers that are asked for, a bit for each, that of 0 the lowest; any of them will do. Numbers from 31 up share a
 // bit, which no element has. Where none are given, every number will do and `set` means nothing.
-#[derive(Drop)]
+#[derive(Clone, Copy)]
 pub struct Asked {
     pub given: bool,
     pub set: u32,
@@ -42,14 +44,14 @@ pub struct Asked {
 
 // The weekdays that will do, a bit for each, Monday's the lowest. Where they are not given, every weekday will do and
 // `set` means nothing.
-#[derive(Drop)]
+#[derive(Clone, Copy)]
 pub struct Weekdays {
     pub given: bool,
     pub set: u32,
 }
 
 // An arc of longitudes, in seconds of arc. Where it is not given, its numbers mean nothing.
-#[derive(Drop)]
+#[derive(Clone, Copy)]
 pub struct Arc {
     pub given: bool,
     pub start: u32,
@@ -57,14 +59,14 @@ pub struct Arc {
 }
 
 // The arcs of a body, either of which will do. Where neither is given, every longitude will do.
-#[derive(Drop)]
+#[derive(Clone, Copy)]
 pub struct BodyArcs {
     pub first: Arc,
     pub second: Arc,
 }
 
 // The bodies of which a true longitude may be asked for.
-#[derive(Drop)]
+#[derive(Clone, Copy)]
 pub enum TrueBody {
     Sun,
     Moon,
@@ -90,7 +92,7 @@ pub const TRUE_ORDER: [TrueBody; TRUE_BODIES] = [
 // Paper 01's reading: a first and a last day, both counted, paper 02's edition, by which the elements and the true Moon
 // are reckoned, and the conditions; the arcs of mean longitudes in the order of the bodies, those of true longitudes in
 // `TRUE_ORDER`.
-#[derive(Drop)]
+#[derive(Clone, Copy)]
 pub struct Query {
     pub first: u32,
     pub last: u32,

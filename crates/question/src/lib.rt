@@ -1,4 +1,6 @@
 // What a day and a page are asked with: a text whose first line is the day, and behind it the page.
+#![tactic(auto)]
+
 ghost use Rattle.std.specs.Prelude.{◌≡◌, ◌<◌};
 ghost use Rattle.question.specs.Questions.{day_in_range, day_line_read, day_or_fault, first_line_read, no_question, asked_by, question_read};
 
@@ -10,7 +12,7 @@ use words::{after, after_word, first_word, run_length, unmarked, up_to};
 
 // A text that has been read: the refusal's number, or 0, why a line is malformed, the line at fault, counted from 1, as
 // of a page; the day, the query, and how it is printed. A refusal has a day and a query of all zeros, and numbers.
-#[derive(Drop)]
+#[derive(Clone, Copy)]
 pub struct Question {
     pub refusal: u32,
     pub reason: u32,
@@ -21,7 +23,7 @@ pub struct Question {
 }
 
 // The first line that has been read.
-#[derive(Drop)]
+#[derive(Clone, Copy)]
 struct FirstLine {
     refusal: u32,
     reason: u32,

@@ -1,4 +1,6 @@
 // Why a day is not in a query's list: the first condition that it does not meet, or that it fits.
+#![tactic(auto)]
+
 ghost use Rattle.std.specs.Prelude.{◌≡◌, true, ◌≤◌};
 ghost use Rattle.days.specs.Days.{last_day, in_range, weekday_on};
 ghost use Rattle.longitudes.specs.Longitudes.{longitude_at};
@@ -18,7 +20,7 @@ use query::{Asked, BodyArcs, Query, TrueBody, Weekdays};
 // What shuts a day out, with the value asked and the value found: the end of the span that was passed and the day; the
 // set of weekdays or of an element's numbers and the day's own; a body's arcs, by its number, and its mean longitude;
 // the arcs of one of the seven true places, by its place among them, and that longitude. Or the day fits.
-#[derive(Drop)]
+#[derive(Clone, Copy)]
 pub enum Reason {
     Fits,
     BeforeSpan {
@@ -62,14 +64,14 @@ pub enum Reason {
 }
 
 // The reason, in the query's edition; or the refusal's number.
-#[derive(Drop)]
+#[derive(Clone, Copy)]
 pub enum Answer {
     Refused(u32),
     Told { edition: u32, reason: Reason },
 }
 
 // Whether a condition holds, and the value found where it does not.
-#[derive(Drop)]
+#[derive(Clone, Copy)]
 struct Tested {
     holds: bool,
     found: u32,

@@ -1,4 +1,6 @@
 // A day's record, and records filled together: paper 02's month at one go.
+#![tactic(auto)]
+
 ghost use Rattle.std.specs.Prelude.{◌≡◌, true, map, ◌≤◌};
 ghost use Rattle.days.specs.Days.{in_range, last_day, days_from};
 ghost use Rattle.longitudes.specs.Longitudes.{longitudes_at};
@@ -11,7 +13,7 @@ use longitudes::{BODIES, Body};
 // A day's number, and what is filled in for it: the nine mean longitudes in the order of `longitudes::Body`, the true
 // Sun and Moon, the elements.
 #[repr(C)]
-#[derive(Drop)]
+#[derive(Clone, Copy)]
 pub struct DayRecord {
     pub day: u32,
     pub weekday: u32,
@@ -25,7 +27,7 @@ pub struct DayRecord {
 }
 
 // A refusal has all zeros.
-#[derive(Drop)]
+#[derive(Clone, Copy)]
 pub struct RecordAnswer {
     pub refusal: u32,
     pub day_record: DayRecord,
@@ -37,7 +39,7 @@ pub const MONTH: usize = 30;
 const LAST_FIRST: u32 = Day::LAST + 1 - MONTH as u32;
 
 // Thirty days' records; a refusal has all zeros.
-#[derive(Drop)]
+#[derive(Clone, Copy)]
 pub struct Month {
     pub refusal: u32,
     pub records: [DayRecord; MONTH],

@@ -1,5 +1,7 @@
 // What is said of a page that was accepted, where it is likely to be meant otherwise: the page's text in, the lines for
 // standard error out.
+#![tactic(auto)]
+
 ghost use Rattle.std.specs.Prelude.{◌≡◌, ◌||◌, ◌+◌, ◌≤◌, ◌<◌, length};
 ghost use Rattle.longitudes.specs.Longitudes.{circle};
 ghost use Rattle.page.specs.Page.{page_read};
@@ -22,7 +24,7 @@ pub const ROOM: usize = 8192;
 const DEGREE: u32 = 3600;
 
 // What is said of a line: of its span or its first arc, and of its second. A line that is empty says nothing.
-#[derive(Drop)]
+#[derive(Clone, Copy)]
 struct Remarks {
     first: Line,
     second: Line,

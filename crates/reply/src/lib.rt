@@ -1,4 +1,6 @@
 // What the program `why` replies to its input: a day and a page in, a line out, put at the front of a lent buffer.
+#![tactic(auto)]
+
 ghost use Rattle.std.specs.Prelude.{◌≡◌, ◌<◌, ◌≤◌, length};
 ghost use Rattle.remarks.specs.Remarks.{remarks_room};
 ghost use Rattle.text.specs.Sheets.{put_at};
@@ -10,7 +12,7 @@ use text::{Line, TOO_LONG};
 
 // How many bytes for standard output stand at the front of the buffer, and the line for standard error, which is empty
 // where nothing is at fault.
-#[derive(Drop)]
+#[derive(Clone, Copy)]
 pub struct Reply {
     pub printed: usize,
     pub said: Line,

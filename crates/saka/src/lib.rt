@@ -1,4 +1,6 @@
 // The Saka lunar date to a day: the mean reckoning, corrected by the weekday.
+#![tactic(auto)]
+
 ghost use Rattle.std.specs.Prelude.{true, cond, ◌≡◌, ◌<◌, pos};
 ghost use Rattle.std.proofs.Math.IntN.{pred_ℤ};
 ghost use Rattle.saka.specs.LunarDays.{lunar_day, fields_in_range, year_in_range, cycle_of, mean_months, extra_months, leap_month_pending, reckoned_day, day_on, integer_day};
@@ -7,7 +9,7 @@ use days::{Day, NumberAnswer, refusal};
 
 // The Saka year, the lunar months (0 to 11) and the tithis (0 to 29), all elapsed, and the weekday, 0 Monday to 6
 // Sunday.
-#[derive(Drop)]
+#[derive(Clone, Copy)]
 pub struct LunarDate {
     pub year: u32,
     pub months: u32,

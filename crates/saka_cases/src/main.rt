@@ -1,5 +1,7 @@
 // Prints Saka dates with their answers: year, months, tithis, weekday and whether an extra month is pending, then the
 // refusal and the day.
+#![tactic(auto)]
+
 use libc::STDOUT_FILENO;
 use saka::LunarDate;
 

@@ -1,6 +1,8 @@
 // Prints the scan of paper 01's worked query. First the query: first day, last day, the arc's start and its width. Then
 // a line for each day that the scan visits: the day, its mean Sun, 1 where it matches, and the day that comes next.
 // docs/scan.svg is drawn from this output.
+#![tactic(auto)]
+
 use days::{Day, refusal};
 use libc::STDOUT_FILENO;
 use longitudes::Body;

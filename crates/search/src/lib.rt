@@ -1,5 +1,7 @@
 // The search: every day that matches a query, written to a list of bytes, or nothing; and the look, by which it
 // examines a day.
+#![tactic(auto)]
+
 ghost use Rattle.std.specs.Prelude.{◌≡◌, true, ◌+◌, ◌≤◌, length, drop};
 ghost use Rattle.days.specs.Days.{last_day};
 ghost use Rattle.entries.specs.Entries.{capacity, with_entries_from};
@@ -24,7 +26,7 @@ const KEPT: usize = 176;
 const KEPT_BYTES: usize = entries::ENTRY_BYTES * KEPT;
 
 // Whether a day matches, and the day that the scan visits next.
-#[derive(Drop)]
+#[derive(Clone, Copy)]
 pub struct Examined {
     pub refusal: u32,
     pub matches: bool,
@@ -32,7 +34,7 @@ pub struct Examined {
 }
 
 // How many days match, and how many were examined to find them.
-#[derive(Drop)]
+#[derive(Clone, Copy)]
 pub struct Found {
     pub refusal: u32,
     pub length: u32,
@@ -40,14 +42,14 @@ pub struct Found {
 }
 
 // Whether a longitude is in an arc, and else how many seconds ahead of it the arc begins.
-#[derive(Drop)]
+#[derive(Clone, Copy)]
 struct Approach {
     inside: bool,
     ahead: u32,
 }
 
 // A day that the scan visits, and how many were examined before it.
-#[derive(Drop)]
+#[derive(Clone, Copy)]
 struct Visit {
     day: u32,
     examined: u32,
@@ -55,7 +57,7 @@ struct Visit {
 
 // What one pass over the visited days finds; `latest` is the last day that matched, or the day that it began with, and
 // `resume` the visit behind the last day that was put into the output.
-#[derive(Drop)]
+#[derive(Clone, Copy)]
 struct Tally {
     length: u32,
     examined: u32,
@@ -65,7 +67,7 @@ struct Tally {
 
 // What is asked beside the mean Sun's arcs and the weekdays: nothing, elements alone, one body's true longitude alone,
 // or several of these or other bodies' mean longitudes.
-#[derive(Drop)]
+#[derive(Clone, Copy)]
 enum More {
     Nothing,
     Elements,
@@ -74,7 +76,7 @@ enum More {
 }
 
 // Of how many bodies a true longitude is asked for, and the place of the last of them.
-#[derive(Drop)]
+#[derive(Clone, Copy)]
 struct Places {
     count: usize,
     last: usize,

@@ -1,4 +1,6 @@
 // The day sheet: what is printed for an input, as a line of bytes.
+#![tactic(auto)]
+
 ghost use Rattle.std.specs.Prelude.{◌≡◌, ◌≤◌};
 ghost use Rattle.days.specs.Days.{last_day, pair_at};
 ghost use Rattle.text.specs.Lines.{Holds};

@@ -1,4 +1,6 @@
 // The printers' sheet of signs: what is printed for an input, line by line.
+#![tactic(auto)]
+
 ghost use Rattle.std.specs.Prelude.{◌≡◌, List, ℕ, ◌≤◌, length};
 ghost use Rattle.days.specs.Days.{last_day};
 ghost use Rattle.entries.specs.Entries.{capacity, entry_at};
@@ -17,7 +19,7 @@ pub const MOST_ENTRIES: usize = 13194;
 pub const LIST: usize = entries::ENTRY_BYTES * MOST_ENTRIES;
 
 // By which Sun entries are listed, and how many they are.
-#[derive(Drop)]
+#[derive(Clone, Copy)]
 pub struct Listed {
     pub sun: Sun,
     pub listing: Listing,

@@ -1,5 +1,7 @@
 // The printers' program: reads a span and prints the days on which the Sun enters a sign, the mean Sun or, with the
 // word `true` behind the span, the true one.
+#![tactic(auto)]
+
 ghost use Rattle.output.specs.Output.{AllWritten};
 ghost use Rattle.text.specs.Sheets.{Between};
 ghost use Rattle.sign_sheet.specs.SignSheets.{sign_lines_for};

@@ -1,5 +1,7 @@
 // A span of days as a line of text: its two days, as a page has them behind the word `span`, and where a program takes
 // one a word behind them.
+#![tactic(auto)]
+
 ghost use Rattle.std.specs.Prelude.{◌≡◌};
 ghost use Rattle.span_line.specs.SpanLine.{no_span, both_days, span_line, span_read, span_input};
 ghost use Rattle.span_line.specs.Marked.{is_marked, not_marked, marked_line, marked_input};
@@ -10,7 +12,7 @@ use values::day;
 use words::{after_word, after_words, first_word, place_in, run_length, up_to};
 
 // A line that has been read: the refusal's number, or 0, and the first and the last day. A refusal has days of zero.
-#[derive(Drop)]
+#[derive(Clone, Copy)]
 pub struct Span {
     pub refusal: u32,
     pub first: u32,
@@ -18,7 +20,7 @@ pub struct Span {
 }
 
 // A span, and whether the mark stands behind its days.
-#[derive(Drop)]
+#[derive(Clone, Copy)]
 pub struct Marked {
     pub span: Span,
     pub marked: bool,

@@ -1,4 +1,6 @@
 // Decimal numbers, days as input, and lines of output: a number is read and printed by one function each.
+#![tactic(auto)]
+
 ghost use Rattle.std.specs.Prelude.{◌≡◌, ◌≤◌, min, length, drop};
 ghost use Rattle.text.specs.Decimal.{number_read, digits_of};
 ghost use Rattle.text.specs.Inputs.{input_read, day_input};
@@ -18,14 +20,14 @@ pub const PIECE: usize = 8192;
 const DAY_DIGITS: usize = 6;
 
 // A line being made: its contents are the first len bytes.
-#[derive(Drop)]
+#[derive(Clone, Copy)]
 pub struct Line {
     pub bytes: [u8; Line::CAPACITY],
     pub len: usize,
 }
 
 // A number's digits: the bytes from an index to the end. No u64 has more than twenty.
-#[derive(Drop)]
+#[derive(Clone, Copy)]
 struct Digits {
     bytes: [u8; 20],
     from: usize,

@@ -1,4 +1,6 @@
 // Numbers printed, lines read as numbers and a line that is too long: the output is held to the file stdout.
+#![tactic(auto)]
+
 ghost use Rattle.std.specs.Prelude.{◌≤◌, length};
 
 use libc::STDOUT_FILENO;

@@ -1,4 +1,6 @@
 // The values of a line: each is a word, read as a number, and the weekdays or the numbers of a line as a set.
+#![tactic(auto)]
+
 ghost use Rattle.std.specs.Prelude.{true, ◌≡◌, ◌≤◌};
 ghost use Rattle.values.specs.Values.{three_read, two_read, degrees_read, sexagesimal_read, angle_read, date_read, day_read, elapsed_in, half_read, is_tithi, half_named, is_weekday, name_value, value_read, most_weekdays, with_weekday, in_numbers, with_number_read, with_value, set_read, set_of, named_set_read, none_read};
 
@@ -20,14 +22,14 @@ const LARGEST: u32 = 30;
 const NO_TITHI: u32 = 31;
 
 // A value of a set, and how many words it is.
-#[derive(Drop)]
+#[derive(Clone, Copy)]
 struct Value {
     words: usize,
     read: NumberAnswer,
 }
 
 // Three numbers with a separator between them.
-#[derive(Drop)]
+#[derive(Clone, Copy)]
 struct Three {
     read: bool,
     first: u32,

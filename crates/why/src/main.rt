@@ -1,4 +1,6 @@
 // Reads a day and a page from standard input and prints why the day is not in the page's list, or that it fits.
+#![tactic(auto)]
+
 ghost use Rattle.std.specs.Prelude.{◌≡◌};
 ghost use Rattle.reply.specs.Replies.{printed_for, remarks_for};
 

@@ -1,4 +1,6 @@
 // How a text is split into lines, and a line into words; the weekdays, the bodies and the true places by name.
+#![tactic(auto)]
+
 ghost use Rattle.std.specs.Prelude.{◌≡◌};
 ghost use Rattle.text.specs.Lines.{space};
 ghost use Rattle.words.specs.Names.{weekday_names, body_names, true_names};

@@ -1,5 +1,7 @@
 // The signs of the zodiac, and the days on which the Sun enters one: the mean Sun, with which paper 02 has its twelve
 // signs, or the true one, by which calendars are printed.
+#![tactic(auto)]
+
 ghost use Rattle.std.specs.Prelude.{◌≡◌, ℕ, ◌+◌, ◌%◌, ◌≤◌, get_or};
 ghost use Rattle.days.specs.Days.{last_day, on_day};
 ghost use Rattle.entries.specs.Entries.{capacity, with_entries_from};
@@ -10,7 +12,7 @@ use days::{Day, NumberAnswer, refusal};
 use longitudes::{Body, CIRCLE, SUN};
 
 // Which Sun is meant.
-#[derive(Drop)]
+#[derive(Clone, Copy)]
 pub enum Sun {
     Mean,
     True,
@@ -34,7 +36,7 @@ const DELAYS: [u32; SIGNS] = [
 
 // How many entries there are, where the span is not refused. The last number, which in the search tells the days
 // examined, is always 0.
-#[derive(Drop)]
+#[derive(Clone, Copy)]
 pub struct Listing {
     pub refusal: u32,
     pub length: u32,
