@@ -5,6 +5,7 @@ ghost use Rattle.output.specs.Output.{AllWritten};
 ghost use Rattle.text.specs.Sheets.{Between};
 ghost use Rattle.almanac_sheet.specs.AlmanacSheets.{reading_lines};
 
+use std::io::Stdin;
 use almanac::{Reader, Reading};
 use blocks::BLOCK_BYTES;
 use days::refusal;
@@ -16,11 +17,11 @@ const MOST_BLOCKS: u32 = 477218590;
 
 // Takes the blocks one by one, until the input ends or its length cannot be right any more. A read that fails is a
 // piece that is no block.
-fn read_blocks() -> Reader {
+fn read_blocks(stdin: &mut Stdin) -> Reader {
     let mut reader = Reader::start();
     let mut buffer = [0u8; BLOCK_BYTES];
     for seen in 0..MOST_BLOCKS {
-        let piece = input::read_piece(&mut buffer);
+        let piece = input::read_piece(stdin, &mut buffer);
         let bytes = piece.bytes;
         if piece.failed {
             return reader.next(&buffer[..0]);
@@ -74,8 +75,9 @@ fn print_reading(reading: Reading) -> Written
 }
 
 // Nothing is printed before the last block is seen.
-fn main() {
-    let reader = read_blocks();
+fn main(rt: HostRuntime) {
+    let mut stdin = rt.stdin();
+    let reader = read_blocks(&mut stdin);
     let reading = reader.ended();
     let written = print_reading(reading);
     if !written.whole {

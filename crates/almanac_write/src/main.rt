@@ -6,7 +6,7 @@ ghost use Rattle.almanac.specs.Files.{block_written};
 
 use blocks::BLOCK_BYTES;
 use days::refusal;
-use libc::STDOUT_FILENO;
+use output::STDOUT_FILENO;
 use span_line::Span;
 
 // The only way to write the file. By what it requires the bytes are a block of it.
@@ -43,8 +43,9 @@ fn print_almanac(input: &[u8]) {
     print_file(span);
 }
 
-fn main() {
+fn main(rt: HostRuntime) {
+    let mut stdin = rt.stdin();
     let mut buffer = [0u8; text::TOO_LONG];
-    let n = input::read_input(&mut buffer);
+    let n = input::read_input(&mut stdin, &mut buffer);
     print_almanac(&buffer[..n]);
 }

@@ -7,9 +7,10 @@ ghost use Rattle.text.specs.Lines.{with_bytes, Holds, refusal_line};
 ghost use Rattle.date_lines.specs.Texts.{with_front};
 ghost use Rattle.conversion.specs.Conversion.{other_kind, printed, told, form_text, fault_text, fault_line};
 
+use std::io::Stdin;
 use date_lines::{Converted, Kind};
 use days::refusal;
-use libc::STDOUT_FILENO;
+use output::STDOUT_FILENO;
 use text::Line;
 
 const MOST_LINES: usize = 4096;
@@ -38,7 +39,7 @@ fn put_refusal(read: Converted, output: &mut [u8; OUTPUT]) -> Converted
     let line = text::refusal_line(read.refusal);
     let bytes = line.bytes;
     let len = line.len;
-    let put = bytes::copy(&bytes[..len], output);
+    let put = entries::copy(&bytes[..len], output);
     Converted {
         refusal: read.refusal,
         line: read.line,
@@ -110,8 +111,8 @@ fn convert_and_print(kind: Kind, input: &[u8]) {
 }
 
 // A program: reads lines of a kind from standard input and prints them as lines of the other.
-pub fn run(kind: Kind) {
+pub fn run(kind: Kind, stdin: &mut Stdin) {
     let mut input = [0u8; INPUT];
-    let n = input::read_input(&mut input);
+    let n = input::read_input(stdin, &mut input);
     convert_and_print(kind, &input[..n]);
 }

@@ -194,7 +194,7 @@ pub fn lines_to_list(kind: Kind, text: &[u8], most: usize, list: &mut [u8]) -> C
     }
     if all.length <= KEPT / entries::ENTRY_BYTES {
         let end = entries::ENTRY_BYTES * all.length;
-        bytes::copy(&kept[..end], list);
+        entries::copy(&kept[..end], list);
         return all;
     }
     put_days(kind, text, list);
@@ -345,7 +345,7 @@ fn put_date(day: u32, text: &mut [u8], at: usize) -> usize
     ensures text_after { text.new ≡ take at text.old ++ with_front (line_of Kind.Dates day) (drop at text.old) }
 {
     let line = date_line(iso::date_on(day));
-    at + bytes::copy(&line, &mut text[at..])
+    at + entries::copy(&line, &mut text[at..])
 }
 
 fn put_number(day: u32, text: &mut [u8], at: usize) -> usize
@@ -356,7 +356,7 @@ fn put_number(day: u32, text: &mut [u8], at: usize) -> usize
     let line = number_line(day);
     let bytes = line.bytes;
     let len = line.len;
-    at + bytes::copy(&bytes[..len], &mut text[at..])
+    at + entries::copy(&bytes[..len], &mut text[at..])
 }
 
 // Puts the lines of a list's days at the front of a text.

@@ -2,8 +2,9 @@
 #![tactic(auto)]
 
 // A good input has at most seven bytes: the eighth shows a longer one.
-fn main() {
+fn main(rt: HostRuntime) {
+    let mut stdin = rt.stdin();
     let mut buffer = [0u8; 8];
-    let n = input::read_input(&mut buffer);
+    let n = input::read_input(&mut stdin, &mut buffer);
     output::print(sheet::sheet(&buffer[..n]));
 }

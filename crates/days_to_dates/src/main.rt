@@ -3,6 +3,7 @@
 
 use date_lines::Kind;
 
-fn main() {
-    conversion::run(Kind::Days);
+fn main(rt: HostRuntime) {
+    let mut stdin = rt.stdin();
+    conversion::run(Kind::Days, &mut stdin);
 }

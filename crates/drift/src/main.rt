@@ -46,8 +46,9 @@ fn print_drifts(input: &[u8]) -> Written
     Written { lines, whole }
 }
 
-fn main() {
+fn main(rt: HostRuntime) {
+    let mut stdin = rt.stdin();
     let mut buffer = [0u8; text::TOO_LONG];
-    let n = input::read_input(&mut buffer);
+    let n = input::read_input(&mut stdin, &mut buffer);
     print_drifts(&buffer[..n]);
 }

@@ -1,7 +1,7 @@
 // A list of days as bytes: four a day, low byte first. A tail under four bytes is no entry.
 #![tactic(auto)]
 
-ghost use Rattle.std.specs.Prelude.{◌≡◌, ◌<◌};
+ghost use Rattle.std.specs.Prelude.{◌≡◌, ◌++◌, ◌<◌, ◌≤◌, drop, length, take};
 ghost use Rattle.entries.specs.Entries.{with_entry, entry_day, entry_at};
 
 use days::NumberAnswer;
@@ -50,4 +50,15 @@ pub fn put_entry(list: &mut [u8], index: usize, day: u32)
         list[at + 2] = (day / 65536 % 256) as u8;
         list[at + 3] = (day / 16777216 % 256) as u8;
     }
+}
+
+// Copies bytes to the front of others, and hands back how many.
+pub fn copy(from: &[u8], to: &mut [u8]) -> usize
+    requires { length from.now ≤ length to.old }
+    ensures value { result ≡ length from.now }
+    ensures to_after { to.new ≡ take (length from.now) from.now ++ drop (length from.now) to.old }
+{
+    let count = from.len();
+    to[..count].copy_from_slice(from);
+    count
 }

@@ -14,8 +14,9 @@ ghost use Rattle.search.specs.Days.{matching_days, visited_days};
 ghost use Rattle.search.specs.Spans.{between};
 ghost use Rattle.find.specs.Output.{heading_of, output_of, said_of, NextBytes, front_days, NextDays};
 
+use std::io::Stdin;
 use days::refusal;
-use libc::STDOUT_FILENO;
+use output::STDOUT_FILENO;
 use names::Print;
 use page::PageRead;
 use query::Query;
@@ -212,10 +213,10 @@ fn say_remarks(text: &[u8]) {
     say_all(text, &buffer[..bytes]);
 }
 
-fn read_and_find(input: &mut [u8])
+fn read_and_find(stdin: &mut Stdin, input: &mut [u8])
     requires { (length input.old ≤ too_long) × (too_long ≤ length input.old) }
 {
-    let n = input::read_input(input);
+    let n = input::read_input(stdin, input);
     if n == input.len() {
         output::print(text::refusal_line(refusal::BAD_INPUT));
         output::say(messages::unreadable_page());
@@ -231,7 +232,8 @@ fn read_and_find(input: &mut [u8])
     find_days(print, read.query, input);
 }
 
-fn main() {
+fn main(rt: HostRuntime) {
+    let mut stdin = rt.stdin();
     let mut input = [0u8; text::TOO_LONG];
-    read_and_find(&mut input);
+    read_and_find(&mut stdin, &mut input);
 }

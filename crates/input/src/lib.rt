@@ -3,7 +3,7 @@
 
 ghost use Rattle.io.specs.Counts.{IsPrefixLen};
 
-use libc::STDIN_FILENO;
+use std::io::{Read, Stdin};
 
 // How many bytes a buffer has of the input, and whether a read failed before it was full or the input at its end.
 #[derive(Clone, Copy)]
@@ -13,26 +13,26 @@ pub struct Piece {
 }
 
 // Reads until the buffer is full or the input ends.
-pub fn read_piece(buffer: &mut [u8]) -> Piece
+pub fn read_piece(stdin: &mut Stdin, buffer: &mut [u8]) -> Piece
     ensures { IsPrefixLen result.bytes buffer.new }
 {
     let mut n = 0;
     while n < buffer.len() {
-        let got = libc::read(STDIN_FILENO, &mut buffer[n..]);
-        if got < 0 {
-            return Piece {
-                bytes: n,
-                failed: true,
-            };
+        match stdin.read(&mut buffer[n..]) {
+            Ok(0) => {
+                return Piece {
+                    bytes: n,
+                    failed: false,
+                };
+            }
+            Ok(more) => n += more,
+            Err(_) => {
+                return Piece {
+                    bytes: n,
+                    failed: true,
+                };
+            }
         }
-        let more = io::count(got, &buffer[n..]);
-        if more == 0 {
-            return Piece {
-                bytes: n,
-                failed: false,
-            };
-        }
-        n += more;
     }
     Piece {
         bytes: n,
@@ -42,10 +42,10 @@ pub fn read_piece(buffer: &mut [u8]) -> Piece
 
 // Reads until the buffer is full or the input ends, and hands back how many bytes it has. A read that fails counts as a
 // full buffer, so that no broken input passes for a whole one.
-pub fn read_input(buffer: &mut [u8]) -> usize
+pub fn read_input(stdin: &mut Stdin, buffer: &mut [u8]) -> usize
     ensures { IsPrefixLen result buffer.new }
 {
-    let piece = read_piece(buffer);
+    let piece = read_piece(stdin, buffer);
     if piece.failed {
         return buffer.len();
     }

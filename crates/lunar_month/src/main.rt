@@ -1,8 +1,9 @@
 // Reads a day, and an edition if one is given, and prints the lunar month's start before it.
 #![tactic(auto)]
 
-fn main() {
+fn main(rt: HostRuntime) {
+    let mut stdin = rt.stdin();
     let mut buffer = [0u8; text::TOO_LONG];
-    let n = input::read_input(&mut buffer);
+    let n = input::read_input(&mut stdin, &mut buffer);
     output::print(lunar_month_sheet::sheet(&buffer[..n]));
 }

@@ -5,8 +5,11 @@ ghost use Rattle.std.specs.Prelude.{◌≡◌};
 ghost use Rattle.text.specs.Lines.{contents, Holds};
 ghost use Rattle.output.specs.Output.{not_written};
 
-use libc::{STDERR_FILENO, STDOUT_FILENO};
 use text::Line;
+
+pub const STDOUT_FILENO: i32 = 1;
+
+const STDERR_FILENO: i32 = 2;
 
 // How far a sheet is printed: how many of its lines, and whether no write failed.
 #[derive(Clone, Copy)]

@@ -4,7 +4,7 @@
 #![tactic(auto)]
 
 use days::{Day, NumberAnswer};
-use libc::STDOUT_FILENO;
+const STDOUT_FILENO: i32 = 1;
 use longitudes::{Body, MeanLongitude};
 
 const COUNT: usize = 24;

@@ -2,7 +2,7 @@
 // refusal and the day.
 #![tactic(auto)]
 
-use libc::STDOUT_FILENO;
+const STDOUT_FILENO: i32 = 1;
 use saka::LunarDate;
 
 fn print(number: u32, end: &[u8]) {

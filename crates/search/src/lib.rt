@@ -526,9 +526,9 @@ pub fn search(query: Query, list: &mut [u8]) -> Found
     }
     if needed <= KEPT {
         let bytes = entries::ENTRY_BYTES * needed;
-        bytes::copy(&kept[..bytes], list);
+        entries::copy(&kept[..bytes], list);
         return Found::counted(refusal::NONE, tally);
     }
-    bytes::copy(&kept, list);
+    entries::copy(&kept, list);
     write_rest(query, tally, list)
 }

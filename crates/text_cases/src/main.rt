@@ -3,7 +3,7 @@
 
 ghost use Rattle.std.specs.Prelude.{◌≤◌, length};
 
-use libc::STDOUT_FILENO;
+const STDOUT_FILENO: i32 = 1;
 use text::Line;
 
 fn write_first(bytes: &[u8; Line::CAPACITY], len: usize) {

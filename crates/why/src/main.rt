@@ -34,8 +34,9 @@ fn reply_to(input: &[u8]) {
     output::say(said);
 }
 
-fn main() {
+fn main(rt: HostRuntime) {
+    let mut stdin = rt.stdin();
     let mut buffer = [0u8; text::TOO_LONG];
-    let n = input::read_input(&mut buffer);
+    let n = input::read_input(&mut stdin, &mut buffer);
     reply_to(&buffer[..n]);
 }
