@@ -1,0 +1,11 @@
+-- `true_angle_on` meets its contract: the seconds as a signed number are themselves. Assumes nothing.
+use mathlib.Core.Path.{ap, ◌∙◌}
+use lib.IntN.{pos}
+use Rattle.arms.specs.Degrees.{degrees_of}
+use Rattle.arms.proofs.ShortWay.{signed}
+use Rattle.arms.proofs.true_angle_on.Goals as goal
+
+pub returns : goal.returns
+returns c =
+    let s = c.true_seconds-at.ensures in
+    c.degrees.ensures ∙ ap degrees_of (signed _ s.1 ∙ ap pos s.0)

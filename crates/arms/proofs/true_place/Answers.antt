@@ -1,0 +1,16 @@
+-- `true_place` meets its contract: held where it is refused, else it goes to the angle; the laws are of any longitude.
+-- Assumes nothing.
+use mathlib.Core.Path.{sym, ◌∙◌}
+use Rattle.arms.specs.Orders.{true_seconds_on}
+use Rattle.arms.proofs.Laws.{in-ranges, place-held, place-goes}
+use Rattle.arms.proofs.TrueSeconds.{true-small}
+use Rattle.arms.proofs.true_place.Goals as goal
+
+pub returns-then-refusal-ne-NONE : goal.returns-then-refusal-ne-NONE
+returns-then-refusal-ne-NONE c = let both = place-held true_seconds_on _ _ _ c.refusal_on-refusal.ensures c.if-refusal-ne-NONE.true in record { meant = both.0; range = both.1.0; exact = both.1.1 }
+
+pub true_angle_on-angle-requires : goal.true_angle_on-angle-requires
+true_angle_on-angle-requires c = in-ranges _ _ (sym c.refusal_on-refusal.ensures ∙ c.if-refusal-ne-NONE.false)
+
+pub returns : goal.returns
+returns c = let both = place-goes true_seconds_on _ _ _ c.refusal_on-refusal.ensures c.if-refusal-ne-NONE.false (true-small _ _) _ c.true_angle_on-angle.ensures in record { meant = both.0; range = both.1.0; exact = both.1.1 }

@@ -1,0 +1,13 @@
+-- What each turn of the loop keeps, and what falls.
+use Prim.Native.Nat.{◌-◌}
+use mathlib.Core.Path.{◌≡◌}
+use lib.ListN.{length}
+use Rattle.text.proofs.Sheets.{Waiting}
+use Rattle.plate.specs.Plates.{plate_lines}
+use Rattle.engraving.proofs.print_plate.Given as goal
+
+abbrev pub invariant-loop-index : goal.invariant-loop-index
+invariant-loop-index l = (l.lines ≡ length (plate_lines l.input)) × Waiting (plate_lines l.input) 8192 l.buffer l.from l.bytes l.index
+
+abbrev pub decreases-loop-index : goal.decreases-loop-index
+decreases-loop-index l = l.lines - l.index

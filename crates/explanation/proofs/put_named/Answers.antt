@@ -1,0 +1,27 @@
+-- `put_named` meets its contract: an element's condition is said by name, and all else as by number. Assumes nothing.
+use Prim.Native.Nat.{◌≤◌}
+use mathlib.Core.Path.{sym, ◌∙◌}
+use lib.ListN.{length}
+use Rattle.reasons.proofs.Accepted.{accepted-question}
+use Rattle.reasons.proofs.Laws.{answered}
+use Rattle.explanation.proofs.Elements.{unmet-said, other-alike, counted-room}
+use borrow.Author.Rules.{rules}
+use Rattle.explanation.proofs.put_named.Goals as goal
+
+pub put_element-requires : goal.put_element-requires
+put_element-requires c =
+    let said = unmet-said c.args.day _ (sym c.element_for.ensures ∙ c.in-Unmet.is) in
+    let size : 1024 ≤ length c.args.buffer.now = search rules in
+    ((accepted-question _ _ (answered _ _ said.0)).day, size)
+
+pub returns-in-Unmet : goal.returns-in-Unmet
+returns-in-Unmet c =
+    let said = unmet-said c.args.day _ (sym c.element_for.ensures ∙ c.in-Unmet.is) in
+    let put = c.put_element.ensures in
+    let day = (accepted-question _ _ (answered _ _ said.0)).day in
+    let both = rw said.1 (put.0, (put.1, counted-room _ _ _ _ _ _ day put.0)) in record { value = both.0; buffer_after = both.1.0; upper_bound = both.1.1 }
+
+pub returns-in-Other : goal.returns-in-Other
+returns-in-Other c =
+    let both = rw (other-alike _ _ (sym c.element_for.ensures ∙ c.in-Other.is))
+    (rw c.line.ensures.whole at c.put_front.ensures) in record { value = both.0; buffer_after = both.1.0; upper_bound = both.1.1 }

@@ -1,0 +1,5 @@
+-- `graha_almanac_block` meets its contract: the library's promise.
+use Rattle.host.proofs.almanacs.graha_almanac_block.Goals as goal
+
+pub returns : goal.returns
+returns c = let both = c.write_block.ensures in record { value = both.0; block_after = both.1 }

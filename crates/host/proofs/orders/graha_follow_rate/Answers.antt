@@ -1,0 +1,11 @@
+-- `graha_follow_rate` meets its contract: the value of the answer's order, with its range.
+use mathlib.Core.Path.{sym, ap, ◌∙◌, subst}
+use Rattle.arms.specs.Orders.{AnswerNumbers}
+use Rattle.arms.specs.Ranges.{IsRate}
+use Rattle.host.proofs.orders.graha_follow_rate.Goals as goal
+
+pub returns : goal.returns
+returns c =
+    let v = c.value.ensures in
+    let p = c.follow-run.ensures in
+    record { value = v ∙ ap (λ (n : AnswerNumbers). n.value) p.0; rate = subst IsRate (sym v) p.1 }

@@ -1,0 +1,7 @@
+-- `graha_follow_result` meets its contract: the refusal of the answer's numbers.
+use mathlib.Core.Path.{ap}
+use Rattle.arms.specs.Orders.{AnswerNumbers}
+use Rattle.host.proofs.orders.graha_follow_result.Goals as goal
+
+pub returns : goal.returns
+returns c = ap (λ (n : AnswerNumbers). n.refusal) c.follow.ensures.meant

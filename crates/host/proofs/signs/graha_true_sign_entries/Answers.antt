@@ -1,0 +1,11 @@
+-- `graha_true_sign_entries` meets its contract: the library's promise.
+use mathlib.Core.Path.{ap}
+use Rattle.zodiac.specs.declared.Listing.{Listing}
+use Rattle.zodiac.specs.Zodiac.{listing_of}
+use Rattle.host.proofs.signs.graha_true_sign_entries.Goals as goal
+
+pub returns : goal.returns
+unfolding listing_of
+returns c =
+    let s = c.entries_by.ensures in
+    record { value = ap (λ (found : Listing). found.refusal) s.0; list_after = s.1 }

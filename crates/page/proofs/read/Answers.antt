@@ -1,0 +1,26 @@
+-- `read` meets its contract: `Reading` holds before each line. Assumes nothing.
+use mathlib.Core.Path.{sym, ap, ◌∙◌}
+use native.Mathlib.Omega.{arith}
+use lib.ListN.{length}
+use Rattle.words.proofs.Pieces.{after-shorter}
+use Rattle.page.specs.Page.{page_answer}
+use Rattle.page.proofs.Reading.{reading-start, reading-next, reading-not-ended, reading-end}
+use Rattle.page.proofs.read.Goals as goal
+
+pub loop-rest-init : goal.loop-rest-init
+loop-rest-init c = rw (c.unmarked-rest.ensures, c.empty_page-page.ensures) (reading-start _)
+
+pub returns-then-run_length-rest : goal.returns-then-run_length-rest
+returns-then-run_length-rest c = c.page_answer.ensures ∙ ap page_answer c.with_fault.ensures ∙ reading-not-ended _ _ _ _ c.loop-rest.invariant c.loop-rest-test.true (sym c.run_length.ensures ∙ c.if-run_length-rest.true)
+
+pub overflow_add-number : goal.overflow_add-number
+overflow_add-number c = omega (arith, c.loop-rest.invariant.room, c.well_formed.0.1)
+
+pub loop-rest-smaller : goal.loop-rest-smaller
+loop-rest-smaller c = rw c.after-others.ensures (after-shorter _ _ (λ end. c.if-run_length-rest.false (c.run_length.ensures ∙ end)))
+
+pub loop-rest-preserved : goal.loop-rest-preserved
+loop-rest-preserved c = rw (c.after-others.ensures, c.with_line-page.ensures, c.read_line-line.ensures, c.up_to.ensures) (reading-next _ _ _ _ c.loop-rest.invariant (λ end. c.if-run_length-rest.false (c.run_length.ensures ∙ end)))
+
+pub returns : goal.returns
+returns c = c.page_answer-2.ensures ∙ reading-end _ _ _ _ c.loop-rest.invariant (omega arith)

@@ -1,0 +1,20 @@
+-- `conditions_in_range` meets its contract: its tests are the meaning's, in its order.
+use mathlib.Core.Path.{sym, ◌∙◌}
+use Rattle.query.specs.Conditions.{conditions_in_range}
+use Rattle.query.proofs.conditions_in_range.Goals as goal
+
+pub returns-then-not-in_range : goal.returns-then-not-in_range
+unfolding conditions_in_range
+returns-then-not-in_range c = rw (sym c.in_range.ensures ∙ c.if-not-in_range.true)
+
+pub returns-then-not-elements_in_range : goal.returns-then-not-elements_in_range
+unfolding conditions_in_range
+returns-then-not-elements_in_range c = rw (sym c.in_range.ensures ∙ c.if-not-in_range.false, sym c.elements_in_range.ensures ∙ c.if-not-elements_in_range.true)
+
+pub returns-then-not-arcs_in_range : goal.returns-then-not-arcs_in_range
+unfolding conditions_in_range
+returns-then-not-arcs_in_range c = rw (sym c.in_range.ensures ∙ c.if-not-in_range.false, sym c.elements_in_range.ensures ∙ c.if-not-elements_in_range.false, sym c.arcs_in_range.ensures ∙ c.if-not-arcs_in_range.true)
+
+pub returns : goal.returns
+unfolding conditions_in_range
+returns c = rw (sym c.in_range.ensures ∙ c.if-not-in_range.false, sym c.elements_in_range.ensures ∙ c.if-not-elements_in_range.false, sym c.arcs_in_range.ensures ∙ c.if-not-arcs_in_range.false, c.true_arcs_in_range.ensures)

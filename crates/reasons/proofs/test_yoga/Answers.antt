@@ -1,0 +1,13 @@
+-- `test_yoga` meets its contract: the yoga of a day in range is not refused. Assumes nothing.
+use Rattle.panchanga.specs.OnDays.{yoga_at}
+use Rattle.panchanga.proofs.Answers.{given-in}
+use Rattle.reasons.proofs.Testing.{no_number, number_of}
+use Rattle.reasons.proofs.test_yoga.Goals as goal
+
+pub returns-then-not-asked : goal.returns-then-not-asked
+returns-then-not-asked c = no_number _ _ c.if-not-asked.true
+
+pub returns : goal.returns
+returns c =
+    let pre = c.requires in
+    number_of _ _ (given-in yoga_at _ _ c.yoga-found.ensures pre.1 pre.0) c.test_number.ensures

@@ -1,0 +1,42 @@
+-- `unmet_true_arcs` meets its contract. The loop's invariant: the first that is not met from this place on is the first
+-- of all. The measure is the places left. Assumes nothing.
+use mathlib.Core.Path.{refl, ◌∙◌}
+use mathlib.Core.List.{List, []}
+use native.Mathlib.Omega.{arith}
+use Prim.Native.Nat.{ℕ, ◌-◌}
+use Rattle.days.specs.declared.Day.{Day}
+use Rattle.query.specs.declared.BodyArcs.{BodyArcs}
+use Rattle.query.specs.Conditions.{place_met, true_longitude_at}
+use Rattle.query.proofs.TrueBodies.{in_order}
+use Rattle.reasons.specs.Conditions.{Cause, true_arcs_asked, row, first_unmet}
+use Rattle.reasons.specs.Reasons.{cause_of}
+use Rattle.reasons.specs.Parts.{TestedFor}
+use Rattle.reasons.proofs.Rows.{unmet_from, one-met, one-unmet, row_ends}
+use Rattle.reasons.proofs.unmet_true_arcs.Goals as goal
+
+-- the first that is not met from place k on
+abbrev from : ℕ → List BodyArcs → Day → ℕ → Cause
+from edition arcs d k = unmet_from (true_arcs_asked edition arcs d) 7 [] k
+
+-- the arcs tested are those of the place with the loop's number
+tested :
+    (c : tie.After-test-true-arcs invariant-loop decreases-loop) →
+    TestedFor
+    (place_met c.before.before.before.before.before.args.edition c.before.before.before.before.before.args.t2 c.before.before.before.before.before.args.day c.before.before.before.before.loop.place)
+    (true_longitude_at c.before.before.before.before.before.args.edition c.before.before.before.before.loop.place c.before.before.before.before.before.args.day)
+    c.test-true-arcs.result
+tested c = rw (in_order c.before.before.before.before.loop.place _ (omega arith)) at c.test-true-arcs.ensures
+
+pub loop-place-init : goal.loop-place-init
+loop-place-init c = (omega arith, refl)
+
+pub returns-then-not-tested : goal.returns-then-not-tested
+unfolding cause_of row
+returns-then-not-tested c = one-unmet _ _ _ c.loop-place.place (omega arith) (tested (goal.at.returns-then-not-tested c).Then-not-tested) c.if-not-tested.true ∙ c.loop-place.invariant.1
+
+pub loop-place-preserved : goal.loop-place-preserved
+loop-place-preserved c = (omega arith, one-met _ _ _ c.loop-place.place (omega arith) (tested (goal.at.loop-place-preserved c).Else-not-tested) c.if-not-tested.false ∙ c.loop-place.invariant.1)
+
+pub returns : goal.returns
+unfolding cause_of first_unmet row
+returns c = row_ends _ _ _ c.loop-place.place (omega arith) ∙ c.loop-place.invariant.1

@@ -1,0 +1,22 @@
+-- `of_page` meets its contract: nothing is said of a page that is refused. Assumes nothing.
+use mathlib.Core.Path.{◌≡◌}
+use native.Mathlib.Omega.{arith}
+use lib.ListN.{length}
+use borrow.Author.Rules.{rules}
+use Rattle.remarks.proofs.Saying.{remarks-short, refused-said, accepted-read}
+use Rattle.remarks.proofs.of_page.Goals as goal
+
+pub returns-then-read-ne-NONE : goal.returns-then-read-ne-NONE
+returns-then-read-ne-NONE c =
+    let said = refused-said _ _ _ c.read-read.ensures c.if-read-ne-NONE.true _ in
+    record { value = said.0; buffer_after = said.1; upper_bound = omega arith }
+
+pub put_all-requires : goal.put_all-requires
+put_all-requires c =
+    let size : length c.args.buffer.now ≡ 8192 = search rules in
+    (accepted-read _ _ c.read-read.ensures c.if-read-ne-NONE.false, size)
+
+pub returns : goal.returns
+returns c =
+    let put = c.put_all.ensures in
+    record { value = put.0; buffer_after = put.1; upper_bound = omega (arith, put.0, remarks-short c.args.first c.args.text.now (omega arith)) }

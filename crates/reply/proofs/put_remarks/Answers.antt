@@ -1,0 +1,13 @@
+-- `put_remarks` meets its contract: nothing is said of an input that is not read or is refused. Assumes nothing.
+use native.Mathlib.Omega.{arith}
+use Rattle.reply.proofs.Replying.{unread-said, refused-said, accepted-said}
+use Rattle.reply.proofs.put_remarks.Goals as goal
+
+pub returns-then-input-ge-TOO_LONG : goal.returns-then-input-ge-TOO_LONG
+returns-then-input-ge-TOO_LONG c = let both = unread-said _ _ c.if-input-ge-TOO_LONG.true in record { value = both.0; buffer_after = both.1.0; upper_bound = both.1.1 }
+
+pub returns-then-read-ne-NONE : goal.returns-then-read-ne-NONE
+returns-then-read-ne-NONE c = let both = refused-said _ _ _ (omega arith) c.read-read.ensures c.if-read-ne-NONE.true in record { value = both.0; buffer_after = both.1.0; upper_bound = both.1.1 }
+
+pub returns : goal.returns
+returns c = let both = accepted-said _ _ _ (omega arith) c.read-read.ensures c.if-read-ne-NONE.false _ c.after.ensures _ _ c.of_page.ensures in record { value = both.0; buffer_after = both.1.0; upper_bound = both.1.1 }

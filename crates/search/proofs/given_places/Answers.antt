@@ -1,0 +1,30 @@
+-- `given_places` meets its contract. The loop's invariant is `Counting`. The measure is the places left.
+use Prim.Native.Nat.{◌-◌}
+use native.Mathlib.Omega.{arith}
+use mathlib.Core.Logic.{⊎_elim}
+use mathlib.Core.Path.{sym, ◌∙◌}
+use Rattle.search.proofs.Others.{counting-start, counting-given, counting-not, counting-end}
+use Rattle.search.proofs.given_places.Goals as goal
+
+pub loop-place-init : goal.loop-place-init
+loop-place-init c = counting-start _
+
+pub overflow_add-count : goal.overflow_add-count
+overflow_add-count c = omega (arith, c.loop-place.invariant.few, c.loop-place.invariant.bound)
+
+pub overflow_add-place : goal.overflow_add-place
+overflow_add-place c = omega (arith, c.loop-place.invariant.bound)
+
+pub loop-place-smaller : goal.loop-place-smaller
+loop-place-smaller c = omega (arith, c.loop-place-test.true)
+
+pub loop-place-preserved : goal.loop-place-preserved
+loop-place-preserved c =
+    let inv = c.loop-place.invariant in
+    ⊎_elim
+    (λ w. rw (w.1, w.2) (counting-given _ _ _ _ inv (omega (arith, c.loop-place-test.true))))
+    (λ w. rw (w.1, w.2) (counting-not _ _ _ _ inv (omega (arith, c.loop-place-test.true)) (sym c.given.ensures ∙ w.0.left)))
+    c.if-given.branch
+
+pub returns : goal.returns
+returns c = counting-end _ _ _ _ c.loop-place.invariant (omega arith)

@@ -1,0 +1,67 @@
+-- `search` meets its contract: refused; an entry for each day, so that one pass suffices; too many; all of them kept
+-- and copied; or the first ones copied and the others put by a second pass.
+use mathlib.Core.Path.{◌≡◌, refl, sym, ap, ◌∙◌}
+use native.Mathlib.Omega.{arith}
+use lib.ListN.{length}
+use lib.Seq.{length-take-le}
+use Rattle.query.specs.Query.{refusal_of}
+use Rattle.query.proofs.Accepted.{accepted-by}
+use Rattle.search.proofs.Answers.{refused, fits-span, too_many, all-written}
+use Rattle.search.proofs.Passes.{scannable-first, scannable-rest}
+use Rattle.entries.proofs.Putting.{put_all, put-length, copied-length, copied_all, copied-and-put}
+use Rattle.search.proofs.search.Goals as goal
+use Rattle.search.proofs.search.Goals.{Else-refusal-ne-NONE}
+
+accepted : (c : Else-refusal-ne-NONE) → refusal_of c.args.query ≡ 0
+accepted c = sym c.refusal-refusal.ensures ∙ c.if-refusal-ne-NONE.false
+
+pub returns-then-refusal-ne-NONE : goal.returns-then-refusal-ne-NONE
+returns-then-refusal-ne-NONE c = rw c.refused.ensures (refused _ _ _ c.refusal-refusal.ensures c.if-refusal-ne-NONE.true)
+
+pub overflow_sub-days_less_one : goal.overflow_sub-days_less_one
+overflow_sub-days_less_one c = omega (arith, (accepted-by _ (accepted (goal.at.overflow_sub-days_less_one c).Else-refusal-ne-NONE)).first)
+
+pub scan-tally-requires : goal.scan-tally-requires
+scan-tally-requires c = scannable-first _ _ _ (accepted (goal.at.scan-tally-requires c).Else-refusal-ne-NONE) c.first_visit-start.ensures
+
+pub returns-then-days_less_one-capacity : goal.returns-then-days_less_one-capacity
+returns-then-days_less_one-capacity c =
+    let e = accepted (goal.at.returns-then-days_less_one-capacity c).Else-refusal-ne-NONE in
+    let fits = fits-span _ _ e c.if-days_less_one-capacity.true in
+    let t = c.scan-tally.ensures.tallied in
+    rw c.counted.ensures
+    (all-written _ _ _ _ e t.count (t.visits refl) _ (omega (arith, t.count, fits)) (c.scan-tally.ensures.output_after ∙ put_all _ _ fits))
+
+pub scan-tally-requires-2 : goal.scan-tally-requires-2
+scan-tally-requires-2 c = scannable-first _ _ _ (accepted (goal.at.scan-tally-requires-2 c).Else-refusal-ne-NONE) c.first_visit-start.ensures
+
+pub returns-then-capacity-needed : goal.returns-then-capacity-needed
+returns-then-capacity-needed c =
+    let t = c.scan-tally-2.ensures.tallied in
+    rw c.counted-then-capacity-needed.ensures (too_many _ _ _ _ (accepted (goal.at.returns-then-capacity-needed c).Else-refusal-ne-NONE) t.count (t.visits refl) c.if-capacity-needed.true)
+
+pub slice_bounds-copy-end : goal.slice_bounds-copy-end
+slice_bounds-copy-end c = sym (length-take-le _ _ (omega (arith, ap length c.scan-tally-2.ensures.output_after ∙ put-length _ _ _)))
+
+pub copy-requires : goal.copy-requires
+copy-requires c = omega (arith, slice-aggregate-copy (goal.at.copy-requires c).After-copy-arg-1, c.if-capacity-needed.false)
+
+pub returns-then-needed-le-KEPT : goal.returns-then-needed-le-KEPT
+returns-then-needed-le-KEPT c =
+    let t = c.scan-tally-2.ensures.tallied in
+    rw c.counted-then-needed-le-KEPT.ensures
+    (all-written _ _ _ _ (accepted (goal.at.returns-then-needed-le-KEPT c).Else-refusal-ne-NONE) t.count (t.visits refl) _ c.if-capacity-needed.false
+    (copied_all _ _ _ _ _ c.scan-tally-2.ensures.output_after (omega (arith, t.count, c.if-needed-le-KEPT.true)) (rw t.count at c.copy.ensures.to_after)))
+
+pub write_rest-requires : goal.write_rest-requires
+write_rest-requires c =
+    let kept = ap length c.scan-tally-2.ensures.output_after ∙ put-length _ _ _ in
+    scannable-rest _ _ _ _ _ (accepted (goal.at.write_rest-requires c).Else-refusal-ne-NONE) c.first_visit-start.ensures c.scan-tally-2.ensures.tallied (omega (arith, c.if-needed-le-KEPT.false))
+    (omega (arith, copied-length c.scan-tally-2.new.1.1.1.1.0 c.args.list.now _ c.copy-2.ensures.to_after (omega (arith, kept, c.if-capacity-needed.false, c.if-needed-le-KEPT.false)), c.if-capacity-needed.false, c.if-needed-le-KEPT.false))
+
+pub returns : goal.returns
+returns c =
+    let t = c.scan-tally-2.ensures.tallied in
+    rw c.write_rest.ensures.value
+    (all-written _ _ _ _ (accepted (goal.at.returns c).Else-refusal-ne-NONE) t.count (t.visits refl) _ c.if-capacity-needed.false
+    (copied-and-put _ _ _ _ _ _ 176 c.scan-tally-2.ensures.output_after refl (omega (arith, t.count, c.if-needed-le-KEPT.false)) (omega (arith, t.count, c.if-capacity-needed.false)) c.copy-2.ensures.to_after c.write_rest.ensures.list_after))

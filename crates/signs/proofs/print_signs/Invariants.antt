@@ -1,0 +1,14 @@
+-- What each turn of the loop keeps, and what falls.
+use Prim.Native.Nat.{◌-◌}
+use mathlib.Core.Path.{◌≡◌}
+use lib.ListN.{length}
+use Rattle.text.proofs.Sheets.{Waiting}
+use Rattle.sign_sheet.specs.SignSheets.{sign_lines_for}
+use Rattle.signs.proofs.print_signs.Given as goal
+
+abbrev pub invariant-loop-index : goal.invariant-loop-index
+invariant-loop-index l =
+    (l.lines ≡ length (sign_lines_for l.input)) × Waiting (sign_lines_for l.input) 8192 l.buffer l.from l.bytes l.index
+
+abbrev pub decreases-loop-index : goal.decreases-loop-index
+decreases-loop-index l = l.lines - l.index
