@@ -25,6 +25,7 @@ Has x (y ∷ ys) = (x ≡ y) ⊎ Has x ys
 -- a list has each element at most once, where it ascends
 pub low : (a x : ℕ) (xs : List ℕ) → Ascending a xs → Has x xs → a ≤ x
 unfolding Ascending Has
+low a x [] u x4 = elim x4 [ ]
 low a x (y ∷ ys) u (inl e) = omega (arith, u.0)
 low a x (y ∷ ys) u (inr h) = omega (arith, u.0, low (suc y) x ys u.1 h)
 
@@ -62,6 +63,7 @@ listed p x a (suc n) h = go (p a) refl h (λ k. let l = listed p x (suc a) n k i
 
 pub has-filtered : (p : ℕ → Bool) (x : ℕ) → p x ≡ true → (xs : List ℕ) → Has x xs → Has x (filtered p xs)
 unfolding Has filtered
+has-filtered p x t [] x'' = elim x'' [ ]
 has-filtered p x t (y ∷ ys) (inl e) = subst (λ (b : Bool). Has x (cond b (y ∷ filtered p ys) (filtered p ys))) (sym (ap p (sym e) ∙ t)) (inl e)
 has-filtered p x t (y ∷ ys) (inr h) = go (p y) (has-filtered p x t ys h)
   where
@@ -71,6 +73,7 @@ has-filtered p x t (y ∷ ys) (inr h) = go (p y) (has-filtered p x t ys h)
 
 pub filtered-has : (p : ℕ → Bool) (x : ℕ) (xs : List ℕ) → Has x (filtered p xs) → Has x xs
 unfolding Has filtered
+filtered-has p x [] h = elim h [ ]
 filtered-has p x (y ∷ ys) h = go (p y) h (λ k. filtered-has p x ys k)
   where
     go : (b : Bool) → Has x (cond b (y ∷ filtered p ys) (filtered p ys)) → (Has x (filtered p ys) → Has x ys) → Has x (y ∷ ys)

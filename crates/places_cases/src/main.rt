@@ -4,7 +4,9 @@
 #![tactic(auto)]
 
 use days::{Day, NumberAnswer};
+
 const STDOUT_FILENO: i32 = 1;
+
 use longitudes::{Body, MeanLongitude};
 
 const COUNT: usize = 24;

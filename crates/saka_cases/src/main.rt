@@ -3,6 +3,7 @@
 #![tactic(auto)]
 
 const STDOUT_FILENO: i32 = 1;
+
 use saka::LunarDate;
 
 fn print(number: u32, end: &[u8]) {

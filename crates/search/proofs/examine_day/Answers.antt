@@ -36,10 +36,16 @@ found c =
 inside-2 : (c : Then-approach) → Inside c.args.t1 c.args.visit.day c.from_number-there.result.day
 inside-2 c =
     let k = (that-day _ _ c.from_number-there.ensures c.if-there-ne-NONE.false) in
-    record { accepts = c.requires.query_value; span = c.requires.day_value; low = k.number; pair = k.pair; sun = given-decides _ _ true ((sym c.given.ensures ∙ c.if-not-given.false)) (sym ((let k = (that-day _ _ c.from_number-there.ensures c.if-there-ne-NONE.false) in
-    subst (λ (x : ℕ). Approached (sun_arcs c.args.t1) x c.nearer-approach.result)
-    (given-seconds _ _ c.mean_longitude-sun.ensures k.range ∙ ap (longitude_at 0) k.pair)
-    c.nearer-approach.ensures)).within ∙ c.if-approach.true) }
+    record {
+      accepts = c.requires.query_value;
+      span = c.requires.day_value;
+      low = k.number;
+      pair = k.pair;
+      sun = given-decides _ _ true ((sym c.given.ensures ∙ c.if-not-given.false)) (sym ((let k = (that-day _ _ c.from_number-there.ensures c.if-there-ne-NONE.false) in
+          subst (λ (x : ℕ). Approached (sun_arcs c.args.t1) x c.nearer-approach.result)
+          (given-seconds _ _ c.mean_longitude-sun.ensures k.range ∙ ap (longitude_at 0) k.pair)
+          c.nearer-approach.ensures)).within ∙ c.if-approach.true);
+    }
 
 low : (c : After-struct_known-2-1) → c.nearer-approach.result.ahead < circle
 low c = rw (((let k = (that-day _ _ c.from_number-there.ensures c.if-there-ne-NONE.false) in
