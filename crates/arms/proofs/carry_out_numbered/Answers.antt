@@ -21,4 +21,4 @@ returns-in-2 c = let e : c.args.number ≡ 2 = omega arith in c.accepted-in-2.en
 
 pub returns-in_default : goal.returns-in_default
 unfolding of_bits carried_out_numbered
-returns-in_default c = let r = c.in_default.rest in rw (ne_eqb _ 0 r.0.0.1, ne_eqb _ 1 r.0.1, ne_eqb _ 2 r.1)
+returns-in_default c = let r = c.in_default.in_default-own.rest in rw (ne_eqb _ 0 r.0.0.1, ne_eqb _ 1 r.0.1, ne_eqb _ 2 r.1)

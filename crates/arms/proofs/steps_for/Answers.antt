@@ -43,7 +43,7 @@ returns-in-7 c = let e : c.args.body ≡ 7 = omega arith in rw e (steps-for 7 _ 
 pub returns-in_default : goal.returns-in_default
 unfolding table steps_of
 returns-in_default c =
-    let r = c.in_default.rest in
+    let r = c.in_default.in_default-own.rest in
     let h : 8 ≤ c.args.body = above 7 _ (above 6 _ (above 5 _ (above 4 _ (above 3 _ (above 2 _ (above 1 _ (above 0 _ zero-le r.0.0.0.0.0.0.0.1) r.0.0.0.0.0.0.1) r.0.0.0.0.0.1) r.0.0.0.0.1) r.0.0.0.1) r.0.0.1) r.0.1) r.1 in
     let e : c.args.body ≡ 8 = le_antisymm c.requires h in
     rw e (steps-for 8 _ (omega arith) c.steps_of-in_default.ensures (omega arith))
