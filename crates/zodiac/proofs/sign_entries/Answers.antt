@@ -2,4 +2,4 @@
 use Rattle.zodiac.proofs.sign_entries.Goals as goal
 
 pub returns : goal.returns
-returns c = let both = c.entries_by.ensures in record { value = both.0; list_after = both.1 }
+returns c = record { value = c.entries_by.ensures.value; list_after = c.entries_by.ensures.list_after }
