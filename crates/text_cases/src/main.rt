@@ -4,6 +4,7 @@
 ghost use Rattle.std.specs.Prelude.{◌≤◌, length};
 
 const STDOUT_FILENO: i32 = 1;
+
 use text::Line;
 
 fn write_first(bytes: &[u8; Line::CAPACITY], len: usize) {

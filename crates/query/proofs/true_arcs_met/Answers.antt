@@ -13,7 +13,7 @@ use Rattle.query.proofs.true_arcs_met.Goals as goal
 use Rattle.query.proofs.true_arcs_met.Goals.{After-true_arcs_have}
 
 -- the arcs tested are those of the body with the loop's number
-tested : (c : After-true_arcs_have) → c.true_arcs_have.result ≡ place_met c.args.edition c.args.t2 c.args.day c.loop-place.place
+tested : (c : After-true_arcs_have) → c.true_arcs_have.result ≡ place_met c.args.edition c.args.arcs c.args.day c.loop-place.place
 tested c =
     let known = c.requires in
     (rw (in_order c.loop-place.place _ (omega arith)) at c.true_arcs_have.ensures) ∙ rw (known.0, known.1)
