@@ -15,4 +15,4 @@ pub loop-i-preserved : goal.loop-i-preserved
 loop-i-preserved c = (omega arith, has-next _ _ _ _ (omega arith) (sym (entry_found _ _ _ (omega arith) c.entry_at.ensures) ∙ c.if-entry_at-numbers.false) ∙ c.loop-i.invariant.1)
 
 pub returns : goal.returns
-returns c = sym (sym c.loop-i.invariant.1 ∙ has-none _ _ c.loop-i.i c.args.t3 (omega arith))
+returns c = sym (sym c.loop-i.invariant.1 ∙ has-none _ _ c.loop-i.i c.args.numbers (omega arith))

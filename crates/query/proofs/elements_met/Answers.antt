@@ -1,5 +1,6 @@
 -- `elements_met` meets its contract: no edition decides, then a pair out of range; with no element of both lights asked
 -- for the nakshatra, else the elements in turn.
+use borrow.Author.Tests.{not-true}
 use mathlib.Core.Bool.{not, true, and-false}
 use mathlib.Core.Path.{◌≡◌, sym, ap, ◌∙◌}
 use Rattle.days.specs.Days.{in_range}
@@ -48,7 +49,7 @@ pub nakshatra_met-requires : goal.nakshatra_met-requires
 nakshatra_met-requires c = known (goal.at.nakshatra_met-requires c).Else-not-in_range
 
 pub returns-then-not-karana : goal.returns-then-not-karana
-returns-then-not-karana c = elements-tested _ _ _ _ _ _ (known (goal.at.returns-then-not-karana c).Else-not-in_range) (only-nakshatra _ _ _ _ _ _ _ (ap not c.if-not-tithi.true) (ap not c.if-not-yoga.true) (ap not c.if-not-karana.true) c.nakshatra_met.ensures)
+returns-then-not-karana c = elements-tested _ _ _ _ _ _ (known (goal.at.returns-then-not-karana c).Else-not-in_range) (only-nakshatra _ _ _ _ _ _ _ (not-true _ c.if-not-tithi.true) (not-true _ c.if-not-yoga.true) (not-true _ c.if-not-karana.true) c.nakshatra_met.ensures)
 
 pub returns-then-not-admits : goal.returns-then-not-admits
 returns-then-not-admits c = elements-tested _ _ _ _ _ _ (known (goal.at.returns-then-not-admits c).Else-not-in_range) (tithi-not-met _ _ _ _ _ _ (tithi-is (goal.at.returns-then-not-admits c).After-admits ∙ c.if-not-admits.true))

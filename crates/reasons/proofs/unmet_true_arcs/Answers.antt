@@ -22,7 +22,7 @@ from edition arcs d k = unmet_from (true_arcs_asked edition arcs d) 7 [] k
 tested :
     (c : tie.After-test-true-arcs invariant-loop decreases-loop) →
     TestedFor
-    (place_met c.before.before.before.before.before.args.edition c.before.before.before.before.before.args.t2 c.before.before.before.before.before.args.day c.before.before.before.before.loop.place)
+    (place_met c.before.before.before.before.before.args.edition c.before.before.before.before.before.args.arcs c.before.before.before.before.before.args.day c.before.before.before.before.loop.place)
     (true_longitude_at c.before.before.before.before.before.args.edition c.before.before.before.before.loop.place c.before.before.before.before.before.args.day)
     c.test-true-arcs.result
 tested c = rw (in_order c.before.before.before.before.loop.place _ (omega arith)) at c.test-true-arcs.ensures

@@ -20,20 +20,20 @@ use Rattle.search.proofs.examine_day.Goals.{After-nearer-approach, After-struct_
 day : (c : Else-there-ne-NONE) → ThatDay c.args.visit.day c.from_number-there.result
 day c = that-day _ _ c.from_number-there.ensures c.if-there-ne-NONE.false
 
-inside : (c : Then-not-given) → Inside c.args.t1 c.args.visit.day c.from_number-there.result.day
+inside : (c : Then-not-given) → Inside c.args.query c.args.visit.day c.from_number-there.result.day
 inside c = let k = (that-day _ _ c.from_number-there.ensures c.if-there-ne-NONE.false) in record { accepts = c.requires.query_value; span = c.requires.day_value; low = k.number; pair = k.pair; sun = no-arcs _ _ (sym c.given.ensures ∙ c.if-not-given.true) }
 
-some : (c : Else-not-given) → arcs_given (sun_arcs c.args.t1) ≡ true
+some : (c : Else-not-given) → arcs_given (sun_arcs c.args.query) ≡ true
 some c = sym c.given.ensures ∙ c.if-not-given.false
 
-found : (c : After-nearer-approach) → Approached (sun_arcs c.args.t1) (sun_on c.args.visit.day) c.nearer-approach.result
+found : (c : After-nearer-approach) → Approached (sun_arcs c.args.query) (sun_on c.args.visit.day) c.nearer-approach.result
 found c =
     let k = (that-day _ _ c.from_number-there.ensures c.if-there-ne-NONE.false) in
-    subst (λ (x : ℕ). Approached (sun_arcs c.args.t1) x c.nearer-approach.result)
+    subst (λ (x : ℕ). Approached (sun_arcs c.args.query) x c.nearer-approach.result)
     (given-seconds _ _ c.mean_longitude-sun.ensures k.range ∙ ap (longitude_at 0) k.pair)
     c.nearer-approach.ensures
 
-inside-2 : (c : Then-approach) → Inside c.args.t1 c.args.visit.day c.from_number-there.result.day
+inside-2 : (c : Then-approach) → Inside c.args.query c.args.visit.day c.from_number-there.result.day
 inside-2 c =
     let k = (that-day _ _ c.from_number-there.ensures c.if-there-ne-NONE.false) in
     record {
@@ -42,14 +42,14 @@ inside-2 c =
       low = k.number;
       pair = k.pair;
       sun = given-decides _ _ true ((sym c.given.ensures ∙ c.if-not-given.false)) (sym ((let k = (that-day _ _ c.from_number-there.ensures c.if-there-ne-NONE.false) in
-          subst (λ (x : ℕ). Approached (sun_arcs c.args.t1) x c.nearer-approach.result)
+          subst (λ (x : ℕ). Approached (sun_arcs c.args.query) x c.nearer-approach.result)
           (given-seconds _ _ c.mean_longitude-sun.ensures k.range ∙ ap (longitude_at 0) k.pair)
           c.nearer-approach.ensures)).within ∙ c.if-approach.true);
     }
 
 low : (c : After-struct_known-2-1) → c.nearer-approach.result.ahead < circle
 low c = rw (((let k = (that-day _ _ c.from_number-there.ensures c.if-there-ne-NONE.false) in
-    subst (λ (x : ℕ). Approached (sun_arcs c.args.t1) x c.nearer-approach.result)
+    subst (λ (x : ℕ). Approached (sun_arcs c.args.query) x c.nearer-approach.result)
     (given-seconds _ _ c.mean_longitude-sun.ensures k.range ∙ ap (longitude_at 0) k.pair)
     c.nearer-approach.ensures)).nearest c.if-approach.false) (nearest-low _ _ ((sym c.given.ensures ∙ c.if-not-given.false)))
 

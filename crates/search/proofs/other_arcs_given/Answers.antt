@@ -15,7 +15,7 @@ pub returns-then-given : goal.returns-then-given
 returns-then-given c = arc-given _ _ c.loop-body.invariant.0 (omega arith) (sym c.given.ensures ∙ c.if-given.true)
 
 pub loop-body-preserved : goal.loop-body-preserved
-loop-body-preserved c = (omega arith, omega arith, below_more (λ (k : ℕ). 0 < k → arcs_given (arcs_at c.args.t1 k) ≡ false) c.loop-body.body c.loop-body.invariant.2 (λ h. sym c.given.ensures ∙ c.if-given.false))
+loop-body-preserved c = (omega arith, omega arith, below_more (λ (k : ℕ). 0 < k → arcs_given (arcs_at c.args.arcs k) ≡ false) c.loop-body.body c.loop-body.invariant.2 (λ h. sym c.given.ensures ∙ c.if-given.false))
 
 pub returns : goal.returns
 returns c = no-arc-given _ (λ k h l. c.loop-body.invariant.2 k (omega arith) h)
