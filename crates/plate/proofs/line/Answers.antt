@@ -7,9 +7,9 @@ use Rattle.text.proofs.Holding.{nothing-held}
 use Rattle.text.proofs.Inputs.{day-read-low}
 use Rattle.plate.proofs.Lines.{first-refused, rest-refused, first-is-heading, line-of-body, none-behind, Found, found}
 use Rattle.plate.proofs.line.Goals as goal
-use Rattle.plate.proofs.line.Goals.{After-thirds-1}
+use Rattle.plate.proofs.line.Goals.{After-mean_longitudes-all}
 
-body-found : (c : After-thirds-1) → Found c.read_day-read.result.number (c.args.index - 1) (get_or c.mean_longitudes-all.result.longitudes (c.args.index - 1) 0) (get_or c.mean_longitudes-all.result.thirds (c.args.index - 1) 0)
+body-found : (c : After-mean_longitudes-all) → Found c.read_day-read.result.number (c.args.index - 1) (get_or c.mean_longitudes-all.result.longitudes (c.args.index - 1) 0) (get_or c.mean_longitudes-all.result.thirds (c.args.index - 1) 0)
 body-found c =
     let low = day-read-low _ _ c.read_day-read.ensures c.if-read-ne-NONE.false in
     found _ _ low (omega arith) c.from_number-answer.ensures c.mean_longitudes-all.ensures
@@ -27,7 +27,7 @@ pub returns-then-index-ge-LINES : goal.returns-then-index-ge-LINES
 returns-then-index-ge-LINES c = rw (none-behind _ _ c.read_day-read.ensures _ c.if-read-ne-NONE.false c.if-index-ge-LINES.true) (nothing-held _ c.empty-then-index-ge-LINES.ensures)
 
 pub body_line-requires : goal.body_line-requires
-body_line-requires c = let f = body-found (goal.at.body_line-requires c).After-thirds-1 in (omega arith, f.below-circle, f.below-60)
+body_line-requires c = let f = body-found (goal.at.body_line-requires c).After-mean_longitudes-all in (omega arith, f.below-circle, f.below-60)
 
 pub returns : goal.returns
-returns c = rw (line-of-body _ _ c.read_day-read.ensures _ c.if-read-ne-NONE.false c.if-index-eq0-2.false (omega arith), ← (body-found (goal.at.returns c).After-thirds-1).line) c.body_line.ensures
+returns c = rw (line-of-body _ _ c.read_day-read.ensures _ c.if-read-ne-NONE.false c.if-index-eq0-2.false (omega arith), ← (body-found (goal.at.returns c).After-mean_longitudes-all).line) c.body_line.ensures
