@@ -3,8 +3,10 @@
 -- Laws on lists, with no program in them. Assumes nothing.
 use mathlib.Core.Path.{◌≡◌, refl, sym, ap}
 use mathlib.Core.List.{List, [], ◌∷◌, map}
-use Prim.Native.Nat.{ℕ, zero, suc, ◌<◌}
+use Prim.Native.Nat.{ℕ, zero, suc, ◌+◌, ◌<◌}
 use native.Mathlib.Nat.{not-suc-le-zero, le_of_suc-le-suc}
+use native.Mathlib.Numerals.{add-one}
+use Rattle.std.proofs.lemmas.List.{get_or_default}
 use lib.ListN.{length, get_or, set}
 
 module _ {A : Type 0} (f : A → A) where
@@ -32,6 +34,14 @@ module _ {A : Type 0} (f : A → A) where
   one_more [] i d h = absurd (not-suc-le-zero h)
   one_more (x ∷ xs) zero d h = ap (λ (ys : List A). f x ∷ ys) (sym (at-start xs))
   one_more (x ∷ xs) (suc i) d h = ap (λ (ys : List A). f x ∷ ys) (one_more xs i d (le_of_suc-le-suc h))
+
+  -- so what holds of it held before, and with whatever stands for what is past the end
+  pub still : (P : A → Type 0) (xs ys : List A) (i : ℕ) (d e : A) → ys ≡ partly xs i → i < length xs → P (get_or xs i e) → P (get_or ys i d)
+  still P xs ys i d e so h p = rw (so, here-is xs i d, get_or_default xs i d e h) p
+
+  -- a turn over what stands at i
+  pub turned : (xs ys : List A) (i : ℕ) (d x : A) → ys ≡ partly xs i → i < length xs → x ≡ f (get_or ys i d) → set ys i x ≡ partly xs (i + 1)
+  turned xs ys i d x so h e = rw (e, so, here-is xs i d, add-one) (one_more xs i d h)
 
   pub all_done : (xs : List A) → partly xs (length xs) ≡ map f xs
   all_done [] = refl

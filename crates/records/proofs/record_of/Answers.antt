@@ -15,5 +15,5 @@ filled-day_record-requires c = (sym c.is_edition.ensures ∙ c.if-not-is_edition
 
 pub returns : goal.returns
 returns c =
-    let r = filled-requires (goal.at.returns c).After-filled-day_record tt in
-    ap (λ (x : DayRecord). record { refusal = 0; day_record = x }) c.filled-day_record.ensures ∙ sym (record-given _ _ r.0 r.1)
+    ap (λ (x : DayRecord). record { refusal = 0; day_record = x }) c.filled-day_record.ensures
+    ∙ sym (record-given _ _ (sym c.is_edition.ensures ∙ c.if-not-is_edition.false) c.if-number-gt-LAST.false)

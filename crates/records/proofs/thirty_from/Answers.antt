@@ -2,7 +2,6 @@
 -- Assumes nothing.
 use borrow.Author.Count.{below_none}
 use mathlib.Core.Path.{refl, sym, ◌∙◌}
-use Prim.Native.Nat.{◌-◌}
 use native.Mathlib.Omega.{arith}
 use Rattle.longitudes.proofs.Filling.{filled_more, filled-whole}
 use Rattle.records.specs.Records.{unfilled_on, no_record}
