@@ -8,7 +8,7 @@ use Prim.Native.Nat.{ℕ, suc, ◌+◌, ◌*◌, ◌-◌, ◌/◌, ◌%◌, ◌�
 use Prim.Native.Char.{code}
 use native.Mathlib.Omega.{arith}
 use lib.Dec.{eqb, leb}
-use lib.ListN.{length, get_or, take, length-append}
+use lib.ListN.{length, get_or, length-append}
 use lib.Seq.{take_at, get_or_at, take_all}
 use borrow.Author.Tests.{ne_eqb, le-leb, leb-true, eqb-true, eqb-false, le-ltb}
 use Rattle.days.specs.declared.NumberAnswer.{NumberAnswer}

@@ -11,7 +11,7 @@ use lib.Seq.{take_all}
 use borrow.Author.Tests.{eq-eqb, ne_eqb, eqb-true, eqb-false, leb-true, leb-false, lt-ltb, le-ltb}
 use Rattle.days.specs.declared.NumberAnswer.{NumberAnswer}
 use Rattle.days.specs.Refusals.{list_too_short}
-use Rattle.entries.specs.Entries.{capacity, with_entry, with_entries, with_entries_from}
+use Rattle.entries.specs.Entries.{capacity, with_entry, with_entries_from}
 use Rattle.entries.proofs.Laws.{with-entry-length}
 use Rattle.entries.proofs.Putting.{put_all, copied_all}
 use Rattle.date_lines.specs.declared.Kind.{Kind}

@@ -1,5 +1,4 @@
 -- `all_days` meets its contract: the entries passed are days. Assumes nothing.
-use Prim.Native.Nat.{◌-◌}
 use mathlib.Core.Path.{refl}
 use native.Mathlib.Omega.{arith}
 use Rattle.date_lines.proofs.Measuring.{checked-bad, checked-more, checked-end}

@@ -1,9 +1,9 @@
 -- `line_end` meets its contract: where the line ends is as far from each byte that is passed. Assumes nothing.
-use Prim.Native.Nat.{ℕ, suc, ◌+◌, ◌-◌}
+use Prim.Native.Nat.{ℕ, suc, ◌+◌}
 use mathlib.Core.Path.{◌≡◌, refl}
 use native.Mathlib.Omega.{arith}
 use native.Mathlib.Numerals.{add-one}
-use lib.ListN.{length, drop}
+use lib.ListN.{drop}
 use Rattle.date_lines.specs.Parts.{first_length}
 use Rattle.date_lines.proofs.Splitting.{other_byte, last_byte, no_byte}
 use Rattle.date_lines.proofs.line_end.Goals as goal

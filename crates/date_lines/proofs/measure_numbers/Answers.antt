@@ -1,6 +1,5 @@
 -- `measure_numbers` meets its contract: what `Measured` says holds before each entry, and gives the answer at both
 -- ends. Assumes nothing.
-use Prim.Native.Nat.{◌-◌}
 use mathlib.Core.Path.{refl, ◌∙◌}
 use native.Mathlib.Omega.{arith}
 use Rattle.text.proofs.Holding.{holds-length}

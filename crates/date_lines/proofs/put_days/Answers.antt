@@ -1,5 +1,4 @@
 -- `put_days` meets its contract: what `Put` says holds before each line. Assumes nothing.
-use Prim.Native.Nat.{◌-◌}
 use native.Mathlib.Omega.{arith}
 use Rattle.date_lines.proofs.Splitting.{line-to, some_at}
 use Rattle.date_lines.proofs.Reading.{put-none, put-end, put-line}

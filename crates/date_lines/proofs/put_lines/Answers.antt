@@ -1,5 +1,4 @@
 -- `put_lines` meets its contract: what `Filled` says holds before each line. Assumes nothing.
-use Prim.Native.Nat.{◌-◌}
 use Rattle.date_lines.proofs.Putting.{filled_none, filled-day, filled_more, filled-end}
 use Rattle.date_lines.proofs.put_lines.Goals as goal
 

@@ -1,6 +1,5 @@
 -- `read_lines` meets its contract: what `Passed` and `Put` say holds before each line, and gives the answer at each of
 -- the three ends. Assumes nothing.
-use Prim.Native.Nat.{◌-◌}
 use mathlib.Core.Path.{◌∙◌}
 use native.Mathlib.Omega.{arith}
 use Rattle.date_lines.proofs.Splitting.{line-to, some_at}
