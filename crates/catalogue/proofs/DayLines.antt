@@ -3,12 +3,12 @@
 use mathlib.Core.Path.{◌≡◌, refl, ap, ◌∙◌}
 use mathlib.Core.Bool.{Bool, true, false, cond}
 use mathlib.Core.List.{List, [], ◌∷◌, ◌++◌, append_assoc}
-use Prim.Native.Nat.{ℕ, ◌+◌, ◌≤◌, ◌<◌}
+use Prim.Native.Nat.{ℕ, ◌≤◌, ◌<◌}
 use native.Mathlib.Omega.{arith}
 use lib.Dec.{eqb}
 use lib.ListN.{length, length-append}
 use Rattle.civil.specs.Answers.{date_of_day}
-use Rattle.dated.specs.Dated.{full_date_bytes, named_day_bytes}
+use Rattle.dated.specs.Dated.{named_day_bytes}
 use Rattle.dated.proofs.Laws.{named-day-short, named-day-some, full-date-length}
 use Rattle.days.specs.declared.DayAnswer.{DayAnswer}
 use Rattle.days.specs.declared.NumberAnswer.{NumberAnswer}
@@ -32,7 +32,7 @@ use Rattle.text.specs.declared.Line.{Line}
 use Rattle.text.specs.Lines.{newline, line_capacity, with_byte, with_bytes, spaced}
 use Rattle.text.proofs.Lines.{with-byte-is, with-bytes-append}
 use Rattle.text.proofs.Printing.{digits-length}
-use Rattle.catalogue.specs.Catalogue.{edition_text, counts_line, element_bytes, column_heading, named_elements, column_line, csv_heading, csv_fields, csv_elements, csv_line, catalogue_heading, day_line, counts_said}
+use Rattle.catalogue.specs.Catalogue.{edition_text, counts_line, element_bytes, column_heading, named_elements, column_line, csv_heading, csv_fields, csv_elements, csv_line, catalogue_heading, day_line}
 
 -- ---- what is put together
 pub numbers-made :

@@ -2,7 +2,6 @@
 use mathlib.Core.List.{append_assoc}
 use Rattle.text.proofs.Lines.{with-byte-is, with-bytes-append}
 use Rattle.catalogue.specs.Catalogue.{csv_line}
-use Rattle.iso.proofs.date_of.Reads as date-of-reads'
 use Rattle.catalogue.proofs.csv_line.Goals as goal
 
 pub returns : goal.returns

@@ -1,10 +1,9 @@
 -- `put` meets its contract: before byte i of the line is copied, the first i of them are. Assumes nothing.
-use Prim.Native.Nat.{◌-◌}
 use mathlib.Core.Path.{◌≡◌, refl}
 use native.Mathlib.Omega.{arith}
 use native.Mathlib.Numerals.{add-one}
-use lib.ListN.{length, length-set}
-use lib.Seq.{paste, paste-zero, paste-suc}
+use lib.ListN.{length-set}
+use lib.Seq.{paste-zero, paste-suc}
 use Rattle.catalogue.proofs.put.Goals as goal
 
 pub loop-i-init : goal.loop-i-init

@@ -5,7 +5,9 @@ use Rattle.catalogue.proofs.Headings.{line_refused, line-put}
 use Rattle.catalogue.proofs.put_heading.Goals as goal
 
 pub returns-then-buffer-len : goal.returns-then-buffer-len
-returns-then-buffer-len c = let both = rw c.refused.ensures (line_refused _ _ _ _ _ _ c.heading_line-line.ensures c.if-buffer-len.true) in record { value = both.0; buffer_after = both.1 }
+returns-then-buffer-len c =
+    let both = line_refused _ _ _ _ _ _ c.heading_line-line.ensures c.if-buffer-len.true in
+    record { value = rw c.refused.ensures both.0; buffer_after = both.1 }
 
 pub put-requires : goal.put-requires
 put-requires c =
@@ -14,4 +16,5 @@ put-requires c =
 
 pub returns : goal.returns
 returns c =
-    let both = rw (c.accepted.ensures, c.put.ensures) (line-put _ _ _ _ _ _ c.heading_line-line.ensures c.if-buffer-len.false) in record { value = both.0; buffer_after = both.1 }
+    let both = line-put _ _ _ _ _ _ c.heading_line-line.ensures c.if-buffer-len.false in
+    record { value = rw c.accepted.ensures both.0; buffer_after = rw c.put.ensures both.1 }

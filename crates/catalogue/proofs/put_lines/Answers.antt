@@ -1,12 +1,9 @@
 -- `put_lines` meets its contract: what was put and what the rest will put are the whole piece (Filling), which stays so
 -- by each line and is the answer at each of the three ends. Assumes nothing.
-use Prim.Native.Nat.{◌-◌}
 use native.Mathlib.Omega.{arith}
 use Rattle.entries.proofs.Listed.{due-none, due-some}
 use Rattle.text.proofs.Holding.{holds-room}
 use Rattle.catalogue.proofs.Filling.{filling-start, filling_step, ended-list, ended-no-day, ended-no-room}
-use Rattle.catalogue.proofs.put_lines.Reads as reads
-use Rattle.catalogue.proofs.put_lines.Lts as lts
 use Rattle.catalogue.proofs.put_lines.Goals as goal
 
 pub loop-print-init : goal.loop-print-init
@@ -25,7 +22,8 @@ shape_of-buffer-then-due-gt-LAST c = c.loop-print.invariant.same
 pub returns-then-due-gt-LAST : goal.returns-then-due-gt-LAST
 returns-then-due-gt-LAST c =
     let due = due-some _ _ _ c.entry_at-due.ensures c.if-due-ne-NONE.false in
-    let both = rw (c.unless_empty.ensures, c.refused.ensures) (ended-no-day _ _ _ _ _ _ _ c.loop-print.invariant _ due c.if-due-gt-LAST.true) in record { value = both.0; buffer_after = both.1 }
+    let both = ended-no-day _ _ _ _ _ _ _ c.loop-print.invariant _ due c.if-due-gt-LAST.true in
+    record { value = rw (c.unless_empty.ensures, c.refused.ensures) both.0; buffer_after = both.1 }
 
 pub overflow_sub-buffer : goal.overflow_sub-buffer
 overflow_sub-buffer c = omega (arith, c.loop-print.invariant.same, c.loop-print.invariant.within)
@@ -36,8 +34,8 @@ shape_of-buffer-then-buffer-piece c = c.loop-print.invariant.same
 pub returns-then-buffer-piece : goal.returns-then-buffer-piece
 returns-then-buffer-piece c =
     let due = due-some _ _ _ c.entry_at-due.ensures c.if-due-ne-NONE.false in
-    let both = rw (c.unless_empty-then-buffer-piece.ensures, c.refused-then-buffer-piece.ensures)
-    (ended-no-room _ _ _ _ _ _ _ c.loop-print.invariant _ due _ c.day_line-line.ensures c.if-due-gt-LAST.false (omega (arith, c.if-buffer-piece.true, c.loop-print.invariant.same))) in record { value = both.0; buffer_after = both.1 }
+    let both = ended-no-room _ _ _ _ _ _ _ c.loop-print.invariant _ due _ c.day_line-line.ensures c.if-due-gt-LAST.false (omega (arith, c.if-buffer-piece.true, c.loop-print.invariant.same)) in
+    record { value = rw (c.unless_empty-then-buffer-piece.ensures, c.refused-then-buffer-piece.ensures) both.0; buffer_after = both.1 }
 
 pub put-requires : goal.put-requires
 put-requires c =

@@ -2,8 +2,6 @@
 use Prim.Native.Nat.{◌-◌}
 use Rattle.entries.specs.Entries.{capacity}
 use Rattle.catalogue.proofs.Filling.{Filling}
-use Rattle.catalogue.proofs.put_lines.Reads as reads
-use Rattle.catalogue.proofs.put_lines.Lts as lts
 use Rattle.catalogue.proofs.put_lines.Given as goal
 
 abbrev pub invariant-loop-print : goal.invariant-loop-print
