@@ -1,6 +1,5 @@
 -- `go_through` meets its contract: going on from where the loop stands is going through the whole file.
 use native.Mathlib.Omega.{arith}
-use Prim.Native.Nat.{◌-◌}
 use Rattle.almanac.proofs.Through.{gone-start, gone-on, gone-end}
 use Rattle.almanac.proofs.go_through.Goals as goal
 

@@ -1,6 +1,5 @@
 -- `put_blocks` meets its contract: the blocks so far, and behind them what was there.
 use native.Mathlib.Omega.{arith}
-use Prim.Native.Nat.{◌-◌}
 use Rattle.almanac.proofs.Writing.{written_start, written-lent, written-length, written-end}
 use Rattle.almanac.proofs.put_blocks.Goals as goal
 

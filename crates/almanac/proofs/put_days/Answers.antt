@@ -1,7 +1,6 @@
 -- `put_days` meets its contract: with the days left put too, the list is that with all of them.
 use mathlib.Core.Path.{refl, ap, ◌∙◌}
 use native.Mathlib.Omega.{arith}
-use Prim.Native.Nat.{◌-◌}
 use lib.ListN.{length}
 use Rattle.entries.proofs.Laws.{with-entry-length}
 use Rattle.almanac.proofs.Answers.{put-start, put_next, put-end}

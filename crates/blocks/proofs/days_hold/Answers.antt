@@ -1,5 +1,4 @@
 -- `days_hold` meets its contract: what is asked of the places left is what was asked of all.
-use Prim.Native.Nat.{◌-◌}
 use mathlib.Core.Path.{sym, ap, ◌∙◌}
 use native.Mathlib.Omega.{arith}
 use lib.ListN.{length}

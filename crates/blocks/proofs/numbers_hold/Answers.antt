@@ -1,5 +1,4 @@
 -- `numbers_hold` meets its contract: what is asked of the numbers left is what was asked of all.
-use Prim.Native.Nat.{◌-◌}
 use mathlib.Core.Path.{sym, ◌∙◌}
 use native.Mathlib.Omega.{arith}
 use Rattle.blocks.proofs.Steps.{entry_found, has-start, has-next, has-not, has-none}

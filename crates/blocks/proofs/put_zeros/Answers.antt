@@ -1,5 +1,4 @@
 -- `put_zeros` meets its contract: with the zeros left put too, the bytes are those with all of them.
-use Prim.Native.Nat.{◌-◌}
 use mathlib.Core.Path.{refl, ap, ◌∙◌}
 use native.Mathlib.Omega.{arith}
 use lib.ListN.{length}

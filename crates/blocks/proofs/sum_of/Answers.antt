@@ -1,5 +1,5 @@
 -- `sum_of` meets its contract: the sum over the bytes passed, which no byte at any position takes past 32 bits.
-use Prim.Native.Nat.{◌+◌, ◌-◌}
+use Prim.Native.Nat.{◌+◌}
 use mathlib.Core.Path.{sym}
 use native.Mathlib.Omega.{arith}
 use Rattle.blocks.proofs.Steps.{sum-none, sum-again, sum-all, product_small}

@@ -1,5 +1,4 @@
 -- `zeros_hold` meets its contract: what is asked of the bytes left is what was asked of all.
-use Prim.Native.Nat.{◌-◌}
 use mathlib.Core.Path.{refl, sym, ◌∙◌}
 use native.Mathlib.Omega.{arith}
 use Rattle.blocks.proofs.Steps.{zeros-next, zeros-not, zeros-none}
