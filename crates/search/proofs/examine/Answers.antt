@@ -17,7 +17,7 @@ returns-then-refusal-ne-NONE c = c.refused-then-refusal-ne-NONE.ensures ∙ refu
 pub examine_day-seen-requires : goal.examine_day-seen-requires
 examine_day-seen-requires c =
     let due = alone-due _ _ _ _ (sym c.refusal-refusal.ensures ∙ c.if-refusal-ne-NONE.false) c.if-day-gt-LAST.false c.over_day-alone.ensures c.first_visit-visit.ensures in
-    let both = (due.0, (c.more_asked-more.ensures, due.1)) in record { query_value = both.0; asks = both.1.0; day_value = both.1.1.0; visit_at = both.1.1.1 }
+    record { query_value = due.0; asks = c.more_asked-more.ensures; day_value = due.1.0; visit_at = due.1.1 }
 
 pub returns-then-in_span : goal.returns-then-in_span
 returns-then-in_span c =

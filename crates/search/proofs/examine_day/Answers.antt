@@ -1,7 +1,7 @@
 -- `examine_day` meets its contract: a visited day is one; the Sun outside its arcs; inside one, decided by the weekday,
 -- by nothing more being asked, by the elements, or by all that is asked.
 use mathlib.Core.Path.{◌≡◌, ap, sym, subst, ◌∙◌}
-use mathlib.Core.Bool.{true}
+use mathlib.Core.Bool.{not, true}
 use native.Mathlib.Omega.{arith}
 use Prim.Native.Nat.{ℕ, ◌<◌}
 use Rattle.days.proofs.Laws.{ThatDay, that-day, no-such-day}
@@ -60,7 +60,7 @@ pub overflow_add-day : goal.overflow_add-day
 overflow_add-day c = omega (arith, (inside (goal.at.overflow_add-day c).Then-not-given).low)
 
 pub returns-then-not-admit : goal.returns-then-not-admit
-returns-then-not-admit c = c.accepted.ensures ∙ by-weekday _ _ _ (inside (goal.at.returns-then-not-admit c).Then-not-given) _ c.admit.ensures c.if-not-admit.true
+returns-then-not-admit c = c.accepted.ensures ∙ by-weekday _ _ _ (inside (goal.at.returns-then-not-admit c).Then-not-given) _ c.admit.ensures (ap not c.if-not-admit.true)
 
 pub overflow_add-day-in-Nothing : goal.overflow_add-day-in-Nothing
 overflow_add-day-in-Nothing c = omega (arith, (inside (goal.at.overflow_add-day-in-Nothing c).Then-not-given).low)
@@ -75,16 +75,16 @@ pub overflow_add-day-in-Several : goal.overflow_add-day-in-Several
 overflow_add-day-in-Several c = omega (arith, (inside (goal.at.overflow_add-day-in-Several c).Then-not-given).low)
 
 pub returns-in-Nothing : goal.returns-in-Nothing
-returns-in-Nothing c = c.accepted-in-Nothing.ensures ∙ by-no-more _ _ _ (inside (goal.at.returns-in-Nothing c).Then-not-given) _ c.admit.ensures _ c.if-not-admit.false c.requires.asks c.in-Nothing.is
+returns-in-Nothing c = c.accepted-in-Nothing.ensures ∙ by-no-more _ _ _ (inside (goal.at.returns-in-Nothing c).Then-not-given) _ c.admit.ensures _ (ap not c.if-not-admit.false) c.requires.asks c.in-Nothing.is
 
 pub returns-in-Elements : goal.returns-in-Elements
-returns-in-Elements c = c.accepted-in-Elements.ensures ∙ by-elements _ _ _ (inside (goal.at.returns-in-Elements c).Then-not-given) _ c.admit.ensures _ c.if-not-admit.false c.requires.asks _ c.in-Elements.is c.elements_met.ensures
+returns-in-Elements c = c.accepted-in-Elements.ensures ∙ by-elements _ _ _ (inside (goal.at.returns-in-Elements c).Then-not-given) _ c.admit.ensures _ (ap not c.if-not-admit.false) c.requires.asks _ c.in-Elements.is c.elements_met.ensures
 
 pub returns-in-TrueArcs : goal.returns-in-TrueArcs
-returns-in-TrueArcs c = c.accepted-in-TrueArcs.ensures ∙ by_place _ _ _ (inside (goal.at.returns-in-TrueArcs c).Then-not-given) _ c.admit.ensures _ c.if-not-admit.false c.requires.asks _ _ _ c.in-TrueArcs.is c.true_arcs_have.ensures
+returns-in-TrueArcs c = c.accepted-in-TrueArcs.ensures ∙ by_place _ _ _ (inside (goal.at.returns-in-TrueArcs c).Then-not-given) _ c.admit.ensures _ (ap not c.if-not-admit.false) c.requires.asks _ _ _ c.in-TrueArcs.is c.true_arcs_have.ensures
 
 pub returns-in-Several : goal.returns-in-Several
-returns-in-Several c = c.accepted-in-Several.ensures ∙ by-more _ _ _ (inside (goal.at.returns-in-Several c).Then-not-given) _ c.admit.ensures _ c.if-not-admit.false c.others_met.ensures
+returns-in-Several c = c.accepted-in-Several.ensures ∙ by-more _ _ _ (inside (goal.at.returns-in-Several c).Then-not-given) _ c.admit.ensures _ (ap not c.if-not-admit.false) c.others_met.ensures
 
 pub nearer-approach-requires : goal.nearer-approach-requires
 nearer-approach-requires c = ((accepted-by _ c.requires.query_value).sun, some (goal.at.nearer-approach-requires c).Else-not-given)
@@ -93,7 +93,7 @@ pub overflow_add-day-then-not-admit-2 : goal.overflow_add-day-then-not-admit-2
 overflow_add-day-then-not-admit-2 c = omega (arith, (inside-2 (goal.at.overflow_add-day-then-not-admit-2 c).Then-approach).low)
 
 pub returns-then-not-admit-2 : goal.returns-then-not-admit-2
-returns-then-not-admit-2 c = c.accepted-then-not-admit-2.ensures ∙ by-weekday _ _ _ (inside-2 (goal.at.returns-then-not-admit-2 c).Then-approach) _ c.admit-then-approach.ensures c.if-not-admit-2.true
+returns-then-not-admit-2 c = c.accepted-then-not-admit-2.ensures ∙ by-weekday _ _ _ (inside-2 (goal.at.returns-then-not-admit-2 c).Then-approach) _ c.admit-then-approach.ensures (ap not c.if-not-admit-2.true)
 
 pub overflow_add-day-in-Nothing-more : goal.overflow_add-day-in-Nothing-more
 overflow_add-day-in-Nothing-more c = omega (arith, (inside-2 (goal.at.overflow_add-day-in-Nothing-more c).Then-approach).low)
@@ -108,16 +108,16 @@ pub overflow_add-day-in-Several-more : goal.overflow_add-day-in-Several-more
 overflow_add-day-in-Several-more c = omega (arith, (inside-2 (goal.at.overflow_add-day-in-Several-more c).Then-approach).low)
 
 pub returns-in-Nothing-more : goal.returns-in-Nothing-more
-returns-in-Nothing-more c = c.accepted-in-Nothing-more.ensures ∙ by-no-more _ _ _ (inside-2 (goal.at.returns-in-Nothing-more c).Then-approach) _ c.admit-then-approach.ensures _ c.if-not-admit-2.false c.requires.asks c.in-Nothing-more.is
+returns-in-Nothing-more c = c.accepted-in-Nothing-more.ensures ∙ by-no-more _ _ _ (inside-2 (goal.at.returns-in-Nothing-more c).Then-approach) _ c.admit-then-approach.ensures _ (ap not c.if-not-admit-2.false) c.requires.asks c.in-Nothing-more.is
 
 pub returns-in-Elements-more : goal.returns-in-Elements-more
-returns-in-Elements-more c = c.accepted-in-Elements-more.ensures ∙ by-elements _ _ _ (inside-2 (goal.at.returns-in-Elements-more c).Then-approach) _ c.admit-then-approach.ensures _ c.if-not-admit-2.false c.requires.asks _ c.in-Elements-more.is c.elements_met-in-Elements-more.ensures
+returns-in-Elements-more c = c.accepted-in-Elements-more.ensures ∙ by-elements _ _ _ (inside-2 (goal.at.returns-in-Elements-more c).Then-approach) _ c.admit-then-approach.ensures _ (ap not c.if-not-admit-2.false) c.requires.asks _ c.in-Elements-more.is c.elements_met-in-Elements-more.ensures
 
 pub returns-in-TrueArcs-more : goal.returns-in-TrueArcs-more
-returns-in-TrueArcs-more c = c.accepted-in-TrueArcs-more.ensures ∙ by_place _ _ _ (inside-2 (goal.at.returns-in-TrueArcs-more c).Then-approach) _ c.admit-then-approach.ensures _ c.if-not-admit-2.false c.requires.asks _ _ _ c.in-TrueArcs-more.is c.true_arcs_have-in-TrueArcs-more.ensures
+returns-in-TrueArcs-more c = c.accepted-in-TrueArcs-more.ensures ∙ by_place _ _ _ (inside-2 (goal.at.returns-in-TrueArcs-more c).Then-approach) _ c.admit-then-approach.ensures _ (ap not c.if-not-admit-2.false) c.requires.asks _ _ _ c.in-TrueArcs-more.is c.true_arcs_have-in-TrueArcs-more.ensures
 
 pub returns-in-Several-more : goal.returns-in-Several-more
-returns-in-Several-more c = c.accepted-in-Several-more.ensures ∙ by-more _ _ _ (inside-2 (goal.at.returns-in-Several-more c).Then-approach) _ c.admit-then-approach.ensures _ c.if-not-admit-2.false c.others_met-in-Several-more.ensures
+returns-in-Several-more c = c.accepted-in-Several-more.ensures ∙ by-more _ _ _ (inside-2 (goal.at.returns-in-Several-more c).Then-approach) _ c.admit-then-approach.ensures _ (ap not c.if-not-admit-2.false) c.others_met-in-Several-more.ensures
 
 pub overflow_add-approach : goal.overflow_add-approach
 overflow_add-approach c = omega (arith, low (goal.at.overflow_add-approach c).After-struct_known-2-1)

@@ -5,6 +5,7 @@ use mathlib.Core.Logic.{⊎_elim}
 use mathlib.Core.Path.{sym, ◌∙◌}
 use Rattle.search.proofs.Others.{counting-start, counting-given, counting-not, counting-end}
 use Rattle.search.proofs.given_places.Goals as goal
+use Rattle.search.proofs.given_places.Goals.{then-given, else-given}
 
 pub loop-place-init : goal.loop-place-init
 loop-place-init c = counting-start _
@@ -21,10 +22,10 @@ loop-place-smaller c = omega (arith, c.loop-place-test.true)
 pub loop-place-preserved : goal.loop-place-preserved
 loop-place-preserved c =
     let inv = c.loop-place.invariant in
-    ⊎_elim
-    (λ w. rw (w.1, w.2) (counting-given _ _ _ _ inv (omega (arith, c.loop-place-test.true))))
-    (λ w. rw (w.1, w.2) (counting-not _ _ _ _ inv (omega (arith, c.loop-place-test.true)) (sym c.given.ensures ∙ w.0.left)))
-    c.if-given.branch
+    elim c.if-given.branch [
+      then-given w ↦ rw (w.count-is, w.last-is) (counting-given _ _ _ _ inv (omega (arith, c.loop-place-test.true)))
+    | else-given w ↦ rw (w.count-is, w.last-is) (counting-not _ _ _ _ inv (omega (arith, c.loop-place-test.true)) (sym c.given.ensures ∙ w.if-given.false))
+    ]
 
 pub returns : goal.returns
 returns c = counting-end _ _ _ _ c.loop-place.invariant (omega arith)

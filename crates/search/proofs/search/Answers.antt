@@ -1,5 +1,6 @@
 -- `search` meets its contract: refused; an entry for each day, so that one pass suffices; too many; all of them kept
 -- and copied; or the first ones copied and the others put by a second pass.
+use Prim.Native.Nat.{◌*◌}
 use mathlib.Core.Path.{◌≡◌, refl, sym, ap, ◌∙◌}
 use native.Mathlib.Omega.{arith}
 use lib.ListN.{length}
@@ -44,7 +45,7 @@ pub slice_bounds-copy-end : goal.slice_bounds-copy-end
 slice_bounds-copy-end c = sym (length-take-le _ _ (omega (arith, ap length c.scan-tally-2.ensures.output_after ∙ put-length _ _ _)))
 
 pub copy-requires : goal.copy-requires
-copy-requires c = omega (arith, slice-aggregate-copy (goal.at.copy-requires c).After-copy-arg-1, c.if-capacity-needed.false)
+copy-requires c = omega (arith, length-take-le (4 * c.scan-tally-2.result.length) c.scan-tally-2.new.output (omega (arith, ap length c.scan-tally-2.ensures.output_after ∙ put-length _ _ _)), c.if-capacity-needed.false)
 
 pub returns-then-needed-le-KEPT : goal.returns-then-needed-le-KEPT
 returns-then-needed-le-KEPT c =
@@ -57,7 +58,7 @@ pub write_rest-requires : goal.write_rest-requires
 write_rest-requires c =
     let kept = ap length c.scan-tally-2.ensures.output_after ∙ put-length _ _ _ in
     scannable-rest _ _ _ _ _ (accepted (goal.at.write_rest-requires c).Else-refusal-ne-NONE) c.first_visit-start.ensures c.scan-tally-2.ensures.tallied (omega (arith, c.if-needed-le-KEPT.false))
-    (omega (arith, copied-length c.scan-tally-2.new.1.1.1.1.0 c.args.list.now _ c.copy-2.ensures.to_after (omega (arith, kept, c.if-capacity-needed.false, c.if-needed-le-KEPT.false)), c.if-capacity-needed.false, c.if-needed-le-KEPT.false))
+    (omega (arith, copied-length c.scan-tally-2.new.output c.args.list.now _ c.copy-2.ensures.to_after (omega (arith, kept, c.if-capacity-needed.false, c.if-needed-le-KEPT.false)), c.if-capacity-needed.false, c.if-needed-le-KEPT.false))
 
 pub returns : goal.returns
 returns c =
