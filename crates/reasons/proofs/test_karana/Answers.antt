@@ -1,11 +1,12 @@
 -- `test_karana` meets its contract: the karana of a day in range is not refused. Assumes nothing.
+use borrow.Author.Tests.{not-true}
 use Rattle.panchanga.specs.OnDays.{karana_at}
 use Rattle.panchanga.proofs.Answers.{given-in}
 use Rattle.reasons.proofs.Testing.{no_number, number_of}
 use Rattle.reasons.proofs.test_karana.Goals as goal
 
 pub returns-then-not-asked : goal.returns-then-not-asked
-returns-then-not-asked c = no_number _ _ c.if-not-asked.true
+returns-then-not-asked c = no_number _ _ (not-true _ c.if-not-asked.true)
 
 pub returns : goal.returns
 returns c =

@@ -23,8 +23,8 @@ pub loop-place-preserved : goal.loop-place-preserved
 loop-place-preserved c =
     let inv = c.loop-place.invariant in
     elim c.if-given.branch [
-      then-given w ↦ rw (w.count-is, w.last-is) (counting-given _ _ _ _ inv (omega (arith, c.loop-place-test.true)))
-    | else-given w ↦ rw (w.count-is, w.last-is) (counting-not _ _ _ _ inv (omega (arith, c.loop-place-test.true)) (sym c.given.ensures ∙ w.if-given.false))
+      | then-given w ↦ rw (w.count-is, w.last-is) (counting-given _ _ _ _ inv (omega (arith, c.loop-place-test.true)))
+      | else-given w ↦ rw (w.count-is, w.last-is) (counting-not _ _ _ _ inv (omega (arith, c.loop-place-test.true)) (sym c.given.ensures ∙ w.if-given.false))
     ]
 
 pub returns : goal.returns
