@@ -12,29 +12,23 @@ use Rattle.reasons.specs.Reasons.{cause_of}
 use Rattle.reasons.specs.Parts.{TestedFor}
 use Rattle.reasons.proofs.Rows.{unmet_from, one-met, one-unmet, row_ends, in_order}
 use Rattle.reasons.proofs.unmet_arcs.Goals as goal
-
--- the first that is not met from body k on
-abbrev from : Query → Day → ℕ → Cause
-from q d k = unmet_from (arcs_asked q.arcs d) 9 (true_conditions q.edition q.true_arcs d) k
+use Rattle.reasons.proofs.unmet_arcs.Goals.{After-test_arcs-tested}
 
 -- the arcs tested are those of the body with the loop's number
 tested :
-    (c : tie.After-test-arcs invariant-loop decreases-loop) →
-    TestedFor
-    (body_met c.before.before.before.before.before.before.args.query.arcs c.before.before.before.before.before.before.args.day c.before.before.before.before.loop.body)
-    (longitude_at c.before.before.before.before.loop.body c.before.before.before.before.before.before.args.day)
-    c.test-arcs.result
-tested c = rw (in_order c.before.before.before.before.loop.body _ (omega arith)) at c.test-arcs.ensures
+    (c : After-test_arcs-tested) →
+    TestedFor (body_met c.args.query.arcs c.args.day c.loop-body.body) (longitude_at c.loop-body.body c.args.day) c.test_arcs-tested.result
+tested c = rw (in_order c.loop-body.body _ (omega arith)) at c.test_arcs-tested.ensures
 
 pub loop-body-init : goal.loop-body-init
 loop-body-init c = (omega arith, refl)
 
 pub returns-then-not-tested : goal.returns-then-not-tested
 unfolding cause_of
-returns-then-not-tested c = one-unmet _ _ _ c.loop-body.body (omega arith) (tested (goal.at.returns-then-not-tested c).Then-not-tested) c.if-not-tested.true ∙ c.loop-body.invariant.1
+returns-then-not-tested c = one-unmet _ _ _ c.loop-body.body (omega arith) (tested (goal.at.returns-then-not-tested c).After-test_arcs-tested) c.if-not-tested.true ∙ c.loop-body.invariant.1
 
 pub loop-body-preserved : goal.loop-body-preserved
-loop-body-preserved c = (omega arith, one-met _ _ _ c.loop-body.body (omega arith) (tested (goal.at.loop-body-preserved c).Else-not-tested) c.if-not-tested.false ∙ c.loop-body.invariant.1)
+loop-body-preserved c = (omega arith, one-met _ _ _ c.loop-body.body (omega arith) (tested (goal.at.loop-body-preserved c).After-test_arcs-tested) c.if-not-tested.false ∙ c.loop-body.invariant.1)
 
 pub returns : goal.returns
 returns c = c.unmet_true_arcs.ensures ∙ row_ends _ _ _ c.loop-body.body (omega arith) ∙ c.loop-body.invariant.1

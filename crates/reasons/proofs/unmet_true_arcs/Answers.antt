@@ -13,29 +13,23 @@ use Rattle.reasons.specs.Reasons.{cause_of}
 use Rattle.reasons.specs.Parts.{TestedFor}
 use Rattle.reasons.proofs.Rows.{unmet_from, one-met, one-unmet, row_ends}
 use Rattle.reasons.proofs.unmet_true_arcs.Goals as goal
-
--- the first that is not met from place k on
-abbrev from : ℕ → List BodyArcs → Day → ℕ → Cause
-from edition arcs d k = unmet_from (true_arcs_asked edition arcs d) 7 [] k
+use Rattle.reasons.proofs.unmet_true_arcs.Goals.{After-test_true_arcs-tested}
 
 -- the arcs tested are those of the place with the loop's number
 tested :
-    (c : tie.After-test-true-arcs invariant-loop decreases-loop) →
-    TestedFor
-    (place_met c.before.before.before.before.before.args.edition c.before.before.before.before.before.args.arcs c.before.before.before.before.before.args.day c.before.before.before.before.loop.place)
-    (true_longitude_at c.before.before.before.before.before.args.edition c.before.before.before.before.loop.place c.before.before.before.before.before.args.day)
-    c.test-true-arcs.result
-tested c = rw (in_order c.before.before.before.before.loop.place _ (omega arith)) at c.test-true-arcs.ensures
+    (c : After-test_true_arcs-tested) →
+    TestedFor (place_met c.args.edition c.args.arcs c.args.day c.loop-place.place) (true_longitude_at c.args.edition c.loop-place.place c.args.day) c.test_true_arcs-tested.result
+tested c = rw (in_order c.loop-place.place _ (omega arith)) at c.test_true_arcs-tested.ensures
 
 pub loop-place-init : goal.loop-place-init
 loop-place-init c = (omega arith, refl)
 
 pub returns-then-not-tested : goal.returns-then-not-tested
 unfolding cause_of row
-returns-then-not-tested c = one-unmet _ _ _ c.loop-place.place (omega arith) (tested (goal.at.returns-then-not-tested c).Then-not-tested) c.if-not-tested.true ∙ c.loop-place.invariant.1
+returns-then-not-tested c = one-unmet _ _ _ c.loop-place.place (omega arith) (tested (goal.at.returns-then-not-tested c).After-test_true_arcs-tested) c.if-not-tested.true ∙ c.loop-place.invariant.1
 
 pub loop-place-preserved : goal.loop-place-preserved
-loop-place-preserved c = (omega arith, one-met _ _ _ c.loop-place.place (omega arith) (tested (goal.at.loop-place-preserved c).Else-not-tested) c.if-not-tested.false ∙ c.loop-place.invariant.1)
+loop-place-preserved c = (omega arith, one-met _ _ _ c.loop-place.place (omega arith) (tested (goal.at.loop-place-preserved c).After-test_true_arcs-tested) c.if-not-tested.false ∙ c.loop-place.invariant.1)
 
 pub returns : goal.returns
 unfolding cause_of first_unmet row
