@@ -1,4 +1,5 @@
 -- `with_reason` meets its contract: an arm for each text. Assumes nothing.
+use native.Mathlib.Omega.{arith}
 use borrow.Author.Tests.{ne_eqb}
 use Rattle.almanac_sheet.specs.AlmanacSheets.{fault_text}
 use Rattle.almanac_sheet.proofs.with_reason.Goals as goal
@@ -22,5 +23,5 @@ returns-in-12 c = rw (c.text-in-12.ensures, c.in-12.is)
 pub returns-in_default : goal.returns-in_default
 unfolding fault_text
 returns-in_default c =
-    let none = c.in_default.rest in
-    rw (c.text-in_default.ensures, ne_eqb _ _ none.0.0.0.1, ne_eqb _ _ none.0.0.1, ne_eqb _ _ none.0.1, ne_eqb _ _ none.1)
+    let r = c.args.refusal in
+    rw (c.text-in_default.ensures, ne_eqb r 9 (λ e. omega arith), ne_eqb r 10 (λ e. omega arith), ne_eqb r 11 (λ e. omega arith), ne_eqb r 12 (λ e. omega arith))
