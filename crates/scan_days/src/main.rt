@@ -4,7 +4,9 @@
 #![tactic(auto)]
 
 use days::{Day, refusal};
+
 const STDOUT_FILENO: i32 = 1;
+
 use longitudes::Body;
 use panchanga::FIRST_EDITION;
 use query::{Arc, Asked, BodyArcs, Query, Weekdays};
