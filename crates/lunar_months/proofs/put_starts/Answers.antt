@@ -14,8 +14,8 @@ loop-day-preserved c =
     let more = c.loop-day-test.true in
     let found = c.tithi_on-tithi.ensures in
     elim c.if-tithi-before.branch [
-      then-tithi-before w ↦ rw (w.list-is, w.count-is, w.latest-is) (finding-one _ _ _ _ _ _ _ _ _ _ _ at.invariant some more found _ w.if-tithi-before.true w.put_entry.ensures)
-    | else-tithi-before w ↦ rw (w.list-is, w.count-is, w.latest-is) (finding-none _ _ _ _ _ _ _ _ _ _ _ at.invariant some more found w.if-tithi-before.false)
+      | then-tithi-before w ↦ rw (w.list-is, w.count-is, w.latest-is) (finding-one _ _ _ _ _ _ _ _ _ _ _ at.invariant some more found _ w.if-tithi-before.true w.put_entry.ensures)
+      | else-tithi-before w ↦ rw (w.list-is, w.count-is, w.latest-is) (finding-none _ _ _ _ _ _ _ _ _ _ _ at.invariant some more found w.if-tithi-before.false)
     ]
 
 pub shape_of-list : goal.shape_of-list

@@ -6,16 +6,16 @@ use Rattle.page.proofs.both_arcs.Goals as goal
 
 pub returns-then-not-first : goal.returns-then-not-first
 unfolding arcs_read
-returns-then-not-first c = c.refused.ensures ∙ rw (not-true _ c.if-not-first.true)
+returns-then-not-first c = c.refused.ensures ∙ rw (not-true c.args.first.read c.if-not-first.true)
 
 pub returns-then-not-second : goal.returns-then-not-second
 unfolding arcs_read
-returns-then-not-second c = c.refused-then-not-second.ensures ∙ rw ((not-false _ c.if-not-first.false), c.if-not-second.true)
+returns-then-not-second c = c.refused-then-not-second.ensures ∙ rw (not-false c.args.first.read c.if-not-first.false, not-true c.args.second.read c.if-not-second.true)
 
 pub returns-then-left-ne0 : goal.returns-then-left-ne0
 unfolding arcs_read
-returns-then-left-ne0 c = c.refused-then-left-ne0.ensures ∙ rw ((not-false _ c.if-not-first.false), c.if-not-second.false, ne_eqb _ _ c.if-left-ne0.true)
+returns-then-left-ne0 c = c.refused-then-left-ne0.ensures ∙ rw (not-false c.args.first.read c.if-not-first.false, not-false c.args.second.read c.if-not-second.false, ne_eqb _ _ c.if-left-ne0.true)
 
 pub returns : goal.returns
 unfolding arcs_read
-returns c = rw ((not-false _ c.if-not-first.false), c.if-not-second.false, eq-eqb _ _ c.if-left-ne0.false)
+returns c = rw (not-false c.args.first.read c.if-not-first.false, not-false c.args.second.read c.if-not-second.false, eq-eqb _ _ c.if-left-ne0.false)

@@ -32,6 +32,7 @@ karana-found c = c.place_in-element.ensures
 
 -- a word that is none before the true places
 places-last : (c : After-true_place-of_place) → 16 + place_in (true_names ++ print_name) c.args.word.now ≡ place_in keywords c.args.word.now
+unfolding pieces is_separator in_front
 places-last c =
     last _ (omega (arith, (c.place_in-place.ensures))) (omega (arith, c.body_place-of_body.ensures)) (omega (arith, (c.place_in-element.ensures)))
 

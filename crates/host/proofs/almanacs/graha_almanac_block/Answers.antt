@@ -2,4 +2,4 @@
 use Rattle.host.proofs.almanacs.graha_almanac_block.Goals as goal
 
 pub returns : goal.returns
-returns c = let both = c.write_block.ensures in record { value = both.0; block_after = both.1 }
+returns c = let both = c.write_block.ensures in record { value = both.value; block_after = both.block_after }

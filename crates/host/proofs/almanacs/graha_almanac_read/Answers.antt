@@ -8,4 +8,4 @@ pub returns : goal.returns
 unfolding listing_of
 returns c =
     let s = c.read.ensures in
-    record { value = ap (λ (done : Transfer). done.refusal) s.0; list_after = s.1 }
+    record { value = ap (λ (done : Transfer). done.refusal) s.value; list_after = s.list_after }

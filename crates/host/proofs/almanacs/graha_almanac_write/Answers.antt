@@ -8,4 +8,4 @@ pub returns : goal.returns
 unfolding writing_of
 returns c =
     let s = c.write.ensures in
-    record { value = ap (λ (done : Transfer). done.refusal) s.0; file_after = s.1 }
+    record { value = ap (λ (done : Transfer). done.refusal) s.value; file_after = s.file_after }

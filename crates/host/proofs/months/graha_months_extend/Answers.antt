@@ -7,4 +7,4 @@ pub returns : goal.returns
 returns c =
     let s = c.extend.ensures in
     let row = c.row.ensures in
-    record { value = ap (λ (a : MonthsAnswer). a.refusal) (rw row at s.0); list_after = rw row at s.1 }
+    record { value = ap (λ (a : MonthsAnswer). a.refusal) (rw row at s.value); list_after = rw row at s.list_after }

@@ -8,4 +8,4 @@ pub returns : goal.returns
 returns c =
     let v = c.value.ensures in
     let p = c.follow-run.ensures in
-    record { value = v ∙ ap (λ (n : AnswerNumbers). n.value) p.0; rate = subst IsRate (sym v) p.1 }
+    record { value = v ∙ ap (λ (n : AnswerNumbers). n.value) p.meant; rate = subst IsRate (sym v) p.range }

@@ -8,4 +8,4 @@ pub returns : goal.returns
 returns c =
     let v = c.value.ensures in
     let p = c.true_place-order.ensures in
-    record { value = v ∙ ap (λ (n : AnswerNumbers). n.value) p.0; angle = subst IsAngle (sym v) p.1.0; exact_angle = subst (ExactAngle true_seconds_on _ _) (sym v) p.1.1 }
+    record { value = v ∙ ap (λ (n : AnswerNumbers). n.value) p.meant; angle = subst IsAngle (sym v) p.range; exact_angle = subst (ExactAngle true_seconds_on _ _) (sym v) p.exact }

@@ -8,4 +8,4 @@ pub returns : goal.returns
 unfolding listing_of
 returns c =
     let s = c.entries_by.ensures in
-    record { value = ap (λ (found : Listing). found.refusal) s.0; list_after = s.1 }
+    record { value = ap (λ (found : Listing). found.refusal) s.value; list_after = s.list_after }

@@ -19,8 +19,8 @@ fits : (c : Joined-capacity-self) → c.args.self.starts + length (starts_behind
 fits c =
     let k = accepted-before _ _ _ _ c.before_extension-before.ensures c.if-before-ne-NONE.false in
     elim c.if-capacity-self.branch [
-      then-capacity-self+else-counted-ne-NONE w ↦ fits-accepted _ _ _ k (sym (ap (λ (a : MonthsAnswer). a.refusal) w.extended-counted.ensures) ∙ w.if-counted-ne-NONE.false)
-    | else-capacity-self w ↦ omega (arith, k.stored, w.if-capacity-self.false, starts-few c.args.self.edition c.args.self.covered c.args.days)
+      | then-capacity-self+else-counted-ne-NONE w ↦ fits-accepted _ _ _ k (sym (ap (λ (a : MonthsAnswer). a.refusal) w.extended-counted.ensures) ∙ w.if-counted-ne-NONE.false)
+      | else-capacity-self w ↦ omega (arith, k.stored, w.if-capacity-self.false, starts-few c.args.self.edition c.args.self.covered c.args.days)
     ]
 
 pub returns-then-before-ne-NONE : goal.returns-then-before-ne-NONE
