@@ -5,11 +5,11 @@ ghost use Rattle.output.specs.Output.{AllWritten};
 ghost use Rattle.text.specs.Sheets.{Between};
 ghost use Rattle.almanac_sheet.specs.AlmanacSheets.{reading_lines};
 
-use std::io::Stdin;
 use almanac::{Reader, Reading};
 use blocks::BLOCK_BYTES;
 use days::refusal;
 use output::Written;
+use std::io::Stdin;
 use text::PIECE;
 
 // More blocks than any count demands.

@@ -1,6 +1,6 @@
 -- `show_scan` ends: where the look is not refused the next day is later (the law `looked-later`), so the measure, the
 -- days left, goes down.
-use Prim.Native.Nat.{◌-◌, ◌<◌}
+use Prim.Native.Nat.{◌<◌}
 use native.Mathlib.Omega.{arith}
 use Rattle.search.proofs.Laws.{looked-later}
 use Rattle.scan_days.proofs.show_scan.Goals as goal
