@@ -9,6 +9,9 @@ use Rattle.bridge.proofs.blocks.bridge_almanac_read_blocks.Goals as goal
 pub returns : goal.returns
 unfolding listing_of
 returns c =
-    let s = c.read-done.ensures in record { value = ap₂ (λ (refusal days : ℕ). 4294967296 * refusal + days)
-          (ap (λ (done : Transfer). done.refusal) s.0)
-          (ap (λ (read : Reading). read.count) (c.ended-reading.ensures ∙ ap ended c.go_through.ensures)); list_after = s.1 }
+    let s = c.read-done.ensures in record {
+      value = ap₂ (λ (refusal days : ℕ). 4294967296 * refusal + days)
+          (ap (λ (done : Transfer). done.refusal) s.value)
+          (ap (λ (read : Reading). read.count) (c.ended-reading.ensures ∙ ap ended c.go_through.ensures));
+      list_after = s.list_after;
+    }

@@ -1,14 +1,11 @@
 -- `body_of` meets its contract: each number's body is the list's at its place. Assumes nothing.
 use mathlib.Core.Path.{◌≡◌, sym}
-use Prim.Native.Nat.{ℕ, ◌+◌, ◌≤◌}
+use Prim.Native.Nat.{◌≤◌}
 use native.Mathlib.Omega.{arith}
 use lib.ListN.{get_or-eq_default}
 use Rattle.longitudes.specs.declared.Body.TheVariants.{Saturn}
 use Rattle.bridge.specs.Bodies.{first_eight, body_from}
 use Rattle.bridge.proofs.bodies.body_of.Goals as goal
-
-above : (k n : ℕ) → k ≤ n → (n ≡ k → ⊥) → k + 1 ≤ n
-above k n h e = omega arith
 
 pub returns-in-0 : goal.returns-in-0
 unfolding body_from
@@ -45,6 +42,5 @@ returns-in-7 c = let e : c.args.number ≡ 7 = omega arith in rw e
 pub returns-in_default : goal.returns-in_default
 unfolding body_from
 returns-in_default c =
-    let r = c.in_default.rest in
-    let h : 8 ≤ c.args.number = above 7 _ (above 6 _ (above 5 _ (above 4 _ (above 3 _ (above 2 _ (above 1 _ (above 0 _ (omega arith) r.0.0.0.0.0.0.0.1) r.0.0.0.0.0.0.1) r.0.0.0.0.0.1) r.0.0.0.0.1) r.0.0.0.1) r.0.0.1) r.0.1) r.1 in
+    let h : 8 ≤ c.args.number = omega arith in
     sym (get_or-eq_default first_eight Saturn h)

@@ -23,5 +23,5 @@ returns-in-2 c = rw c.in-2.is
 pub returns-in_default : goal.returns-in_default
 unfolding one_of
 returns-in_default c =
-    let behind : 3 ≤ c.args.body = omega (arith, c.in_default.rest) in
+    let behind : 3 ≤ c.args.body = omega arith in
     sym (get_or-eq_default (c.args.drifts.sun ∷ c.args.drifts.moon ∷ c.args.drifts.apogee ∷ []) nothing behind)

@@ -9,4 +9,4 @@ pub returns : goal.returns
 returns c =
     let s = c.extend-after.ensures in
     let row = c.row.ensures in
-    record { value = c.joined.ensures ∙ ap (λ (a : MonthsAnswer). starts_together a) (rw row at s.0); list_after = rw row at s.1 }
+    record { value = c.joined.ensures ∙ ap (λ (a : MonthsAnswer). starts_together a) (rw row at s.value); list_after = rw row at s.list_after }
