@@ -19,4 +19,4 @@ put_all-requires c =
 pub returns : goal.returns
 returns c =
     let put = c.put_all.ensures in
-    record { value = put.0; buffer_after = put.1; upper_bound = omega (arith, put.0, remarks-short c.args.first c.args.text.now (omega arith)) }
+    record { value = put.value; buffer_after = put.buffer_after; upper_bound = omega (arith, put.value, remarks-short c.args.first c.args.text.now (omega arith)) }

@@ -21,7 +21,7 @@ loop-rest-smaller c = rw c.after-others.ensures (after_less _ c.loop-rest-test.t
 pub loop-rest-preserved : goal.loop-rest-preserved
 loop-rest-preserved c =
     let put = c.put_line-at.ensures in
-    rw (c.after-others.ensures, c.asked_with-asked.ensures, put.0, put.1, c.up_to-line.ensures) (saying-next _ _ _ c.requires.0 (omega arith) c.requires.1 _ _ _ _ _ c.loop-rest.invariant c.loop-rest-test.true)
+    rw (c.after-others.ensures, c.asked_with-asked.ensures, put.value, put.buffer_after, c.up_to-line.ensures) (saying-next _ _ _ c.requires.0 (omega arith) c.requires.1 _ _ _ _ _ c.loop-rest.invariant c.loop-rest-test.true)
 
 pub shape_of-buffer-then-asked : goal.shape_of-buffer-then-asked
 shape_of-buffer-then-asked c = same_size _ _ _ c.requires.0 (omega arith) c.requires.1 _ _ _ _ _ c.loop-rest.invariant
@@ -35,11 +35,11 @@ put-requires c =
     (contents-length said, rw said.whole (last-room _ _ _ c.requires.0 (omega arith) c.requires.1 _ _ _ _ _ c.loop-rest.invariant (omega arith) c.if-asked.false))
 
 pub shape_of-buffer : goal.shape_of-buffer
-shape_of-buffer c = c.put.auto.1.0 ∙ same_size _ _ _ c.requires.0 (omega arith) c.requires.1 _ _ _ _ _ c.loop-rest.invariant
+shape_of-buffer c = c.put.auto.buffer ∙ same_size _ _ _ c.requires.0 (omega arith) c.requires.1 _ _ _ _ _ c.loop-rest.invariant
 
 pub returns : goal.returns
 returns c =
     let put = c.put.ensures in
     let said = c.nothing_asked.ensures in
     let all = saying-last _ _ _ c.requires.0 (omega arith) c.requires.1 _ _ _ _ _ c.loop-rest.invariant (omega arith) c.if-asked.false in
-    record { value = (rw said.whole at put.0) ∙ all.0; buffer_after = (rw said.whole at put.1) ∙ all.1 }
+    record { value = (rw said.whole at put.value) ∙ all.0; buffer_after = (rw said.whole at put.buffer_after) ∙ all.1 }
