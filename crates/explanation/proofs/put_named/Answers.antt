@@ -19,9 +19,9 @@ returns-in-Unmet c =
     let said = unmet-said c.args.day _ (sym c.element_for.ensures ∙ c.in-Unmet.is) in
     let put = c.put_element.ensures in
     let day = (accepted-question _ _ (answered _ _ said.0)).day in
-    let both = rw said.1 (put.0, (put.1, counted-room _ _ _ _ _ _ day put.0)) in record { value = both.0; buffer_after = both.1.0; upper_bound = both.1.1 }
+    rw said.1 (record { value = put.value; buffer_after = put.buffer_after; upper_bound = counted-room _ _ _ _ _ _ day put.value })
 
 pub returns-in-Other : goal.returns-in-Other
 returns-in-Other c =
-    let both = rw (other-alike _ _ (sym c.element_for.ensures ∙ c.in-Other.is))
-    (rw c.line.ensures.whole at c.put_front.ensures) in record { value = both.0; buffer_after = both.1.0; upper_bound = both.1.1 }
+    rw (other-alike _ _ (sym c.element_for.ensures ∙ c.in-Other.is))
+    (rw c.line.ensures.whole at c.put_front.ensures)
