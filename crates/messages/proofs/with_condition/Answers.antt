@@ -1,4 +1,5 @@
 -- `with_condition` meets its contract: an arm for each text. Assumes nothing.
+use native.Mathlib.Omega.{arith}
 use borrow.Author.Tests.{ne_eqb}
 use Rattle.messages.specs.Messages.{condition_takes}
 use Rattle.messages.proofs.with_condition.Goals as goal
@@ -26,5 +27,5 @@ returns-in-4 c = rw (c.text-in-4.ensures, c.in-4.is)
 pub returns-in_default : goal.returns-in_default
 unfolding condition_takes
 returns-in_default c =
-    let none = c.in_default.rest in
-    rw (c.text-in_default.ensures, ne_eqb _ _ none.0.0.0.0.1, ne_eqb _ _ none.0.0.0.1, ne_eqb _ _ none.0.0.1, ne_eqb _ _ none.0.1, ne_eqb _ _ none.1)
+    let r = c.args.keyword in
+    rw (c.text-in_default.ensures, ne_eqb r 0 (λ e. omega arith), ne_eqb r 1 (λ e. omega arith), ne_eqb r 2 (λ e. omega arith), ne_eqb r 3 (λ e. omega arith), ne_eqb r 4 (λ e. omega arith))

@@ -1,4 +1,5 @@
 -- `with_reason` meets its contract: an arm for each text. Assumes nothing.
+use native.Mathlib.Omega.{arith}
 use borrow.Author.Tests.{ne_eqb}
 use Rattle.messages.specs.Messages.{fault_text}
 use Rattle.messages.proofs.with_reason.Goals as goal
@@ -22,5 +23,5 @@ returns-in-5 c = rw (c.text-in-5.ensures, c.in-5.is)
 pub returns-in_default : goal.returns-in_default
 unfolding fault_text
 returns-in_default c =
-    let none = c.in_default.rest in
-    rw (c.with_values.ensures, ne_eqb _ _ none.0.0.0.1, ne_eqb _ _ none.0.0.1, ne_eqb _ _ none.0.1, ne_eqb _ _ none.1)
+    let r = c.args.reason in
+    rw (c.with_values.ensures, ne_eqb r 1 (λ e. omega arith), ne_eqb r 3 (λ e. omega arith), ne_eqb r 4 (λ e. omega arith), ne_eqb r 5 (λ e. omega arith))

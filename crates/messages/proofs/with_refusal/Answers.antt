@@ -1,4 +1,5 @@
 -- `with_refusal` meets its contract: an arm for each text. Assumes nothing.
+use native.Mathlib.Omega.{arith}
 use borrow.Author.Tests.{ne_eqb}
 use Rattle.messages.specs.Messages.{refusal_text}
 use Rattle.messages.proofs.with_refusal.Goals as goal
@@ -22,5 +23,5 @@ returns-in-14 c = rw (c.text-in-14.ensures, c.in-14.is)
 pub returns-in_default : goal.returns-in_default
 unfolding refusal_text
 returns-in_default c =
-    let none = c.in_default.rest in
-    rw (c.text-in_default.ensures, ne_eqb _ _ none.0.0.0.1, ne_eqb _ _ none.0.0.1, ne_eqb _ _ none.0.1, ne_eqb _ _ none.1)
+    let r = c.args.refusal in
+    rw (c.text-in_default.ensures, ne_eqb r 1 (λ e. omega arith), ne_eqb r 2 (λ e. omega arith), ne_eqb r 5 (λ e. omega arith), ne_eqb r 14 (λ e. omega arith))
