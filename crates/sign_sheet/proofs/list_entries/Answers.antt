@@ -31,5 +31,5 @@ returns c =
     let sun = c.sun_meant-sun.ensures ∙ ap (λ (m : Marked). sun_meant m.marked) asks in
     let span = ap (λ (m : Marked). m.span) asks in
     let found = c.entries_by-listing.ensures in
-    let listed = all_listed _ _ _ _ sun span c.if-span-ne-NONE.false _ _ found.0 found.1 in
-    record { value = listed.0; list_after = listed.1; list_after_2 = listed-together _ _ _ _ sun span c.if-span-ne-NONE.false (enough (goal.at.returns c).After-entries_by-listing) _ _ found.0 found.1 }
+    let listed = all_listed _ _ _ _ sun span c.if-span-ne-NONE.false _ _ found.value found.list_after in
+    record { value = listed.0; list_after = listed.1; list_after_2 = listed-together _ _ _ _ sun span c.if-span-ne-NONE.false (enough (goal.at.returns c).After-entries_by-listing) _ _ found.value found.list_after }
