@@ -1,6 +1,7 @@
 -- `carry_out_numbered` meets its contract: each number's arm is what the arm's own function gives, and any other number
 -- is refused. Assumes nothing.
 use mathlib.Core.Path.{◌≡◌, ap, ◌∙◌}
+use Rattle.std.proofs.Common.{◌≢◌}
 use native.Mathlib.Omega.{arith}
 use lib.Ieee.{of_bits}
 use borrow.Author.Tests.{ne_eqb}
@@ -21,4 +22,8 @@ returns-in-2 c = let e : c.args.number ≡ 2 = omega arith in c.accepted-in-2.en
 
 pub returns-in_default : goal.returns-in_default
 unfolding of_bits carried_out_numbered
-returns-in_default c = let r = c.in_default.in_default-own.rest in rw (ne_eqb _ 0 r.0.0.1, ne_eqb _ 1 r.0.1, ne_eqb _ 2 r.1)
+returns-in_default c =
+    let zero : c.args.number ≢ 0 = omega arith in
+    let one : c.args.number ≢ 1 = omega arith in
+    let two : c.args.number ≢ 2 = omega arith in
+    rw (ne_eqb _ 0 zero, ne_eqb _ 1 one, ne_eqb _ 2 two)

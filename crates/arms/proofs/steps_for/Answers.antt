@@ -1,11 +1,9 @@
 -- `steps_for` meets its contract: each case is the body with that number, whose row is the table's. Assumes nothing.
 use mathlib.Core.Path.{◌≡◌}
-use Prim.Native.Nat.{◌≤◌, zero-le}
-use native.Mathlib.Nat.{le_antisymm}
 use native.Mathlib.Omega.{arith}
 use Rattle.longitudes.specs.Longitudes.{table}
 use Rattle.arms.specs.Parts.{steps_of}
-use Rattle.arms.proofs.Parts.{above, steps-for}
+use Rattle.arms.proofs.Parts.{steps-for}
 use Rattle.arms.proofs.steps_for.Goals as goal
 
 pub returns-in-0 : goal.returns-in-0
@@ -43,7 +41,5 @@ returns-in-7 c = let e : c.args.body ≡ 7 = omega arith in rw e (steps-for 7 _ 
 pub returns-in_default : goal.returns-in_default
 unfolding table steps_of
 returns-in_default c =
-    let r = c.in_default.in_default-own.rest in
-    let h : 8 ≤ c.args.body = above 7 _ (above 6 _ (above 5 _ (above 4 _ (above 3 _ (above 2 _ (above 1 _ (above 0 _ zero-le r.0.0.0.0.0.0.0.1) r.0.0.0.0.0.0.1) r.0.0.0.0.0.1) r.0.0.0.0.1) r.0.0.0.1) r.0.0.1) r.0.1) r.1 in
-    let e : c.args.body ≡ 8 = le_antisymm c.requires h in
+    let e : c.args.body ≡ 8 = omega arith in
     rw e (steps-for 8 _ (omega arith) c.steps_of-in_default.ensures (omega arith))

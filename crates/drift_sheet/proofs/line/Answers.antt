@@ -23,4 +23,4 @@ pub returns-in-3 : goal.returns-in-3
 returns-in-3 c = rw (line-3 c.args.drifts c.if-drifts-ne-NONE.false _ c.in-3.is) c.body_line-in-3.ensures
 
 pub returns-in_default : goal.returns-in_default
-returns-in_default c = rw (none-behind c.args.drifts c.if-drifts-ne-NONE.false c.args.index (omega (arith, c.in_default.rest))) (nothing-held _ c.empty-in_default.ensures)
+returns-in_default c = rw (none-behind c.args.drifts c.if-drifts-ne-NONE.false c.args.index (omega arith)) (nothing-held _ c.empty-in_default.ensures)
