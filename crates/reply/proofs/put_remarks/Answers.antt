@@ -10,4 +10,7 @@ pub returns-then-read-ne-NONE : goal.returns-then-read-ne-NONE
 returns-then-read-ne-NONE c = let both = refused-said _ _ _ (omega arith) c.read-read.ensures c.if-read-ne-NONE.true in record { value = both.0; buffer_after = both.1.0; upper_bound = both.1.1 }
 
 pub returns : goal.returns
-returns c = let both = accepted-said _ _ _ (omega arith) c.read-read.ensures c.if-read-ne-NONE.false _ c.after.ensures _ _ c.of_page.ensures in record { value = both.0; buffer_after = both.1.0; upper_bound = both.1.1 }
+returns c =
+    let put = c.of_page.ensures in
+    let both = accepted-said _ _ _ (omega arith) c.read-read.ensures c.if-read-ne-NONE.false _ c.after.ensures _ _ (put.value, (put.buffer_after, put.upper_bound)) in
+    record { value = both.0; buffer_after = both.1.0; upper_bound = both.1.1 }

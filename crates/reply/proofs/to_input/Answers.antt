@@ -9,7 +9,8 @@ use Rattle.reply.proofs.to_input.Goals as goal
 
 pub returns-then-input-ge-TOO_LONG : goal.returns-then-input-ge-TOO_LONG
 returns-then-input-ge-TOO_LONG c =
-    unread-reply _ _ _ _ _ c.if-input-ge-TOO_LONG.true (rw c.refusal_line-refused.ensures.whole at c.put_front-printed.ensures) c.unreadable_page-said.ensures
+    let put = rw c.refusal_line-refused.ensures.whole at c.put_front-printed.ensures in
+    unread-reply _ _ _ _ _ c.if-input-ge-TOO_LONG.true (put.value, (put.buffer_after, put.upper_bound)) c.unreadable_page-said.ensures
 
 pub to_question-requires : goal.to_question-requires
 to_question-requires c = omega (arith, ap (λ (q : Question). q.line) c.read.ensures, line-at-fault c.args.input.now)
