@@ -4,11 +4,11 @@
 use Prim.Native.Nat.{ℕ, zero, suc, ◌+◌, ◌-◌, ◌*◌, ◌≤◌, ◌<◌}
 use mathlib.Core.Path.{◌≡◌, refl, ap, sym, ◌∙◌}
 use mathlib.Core.Bool.{Bool, true, false, cond}
-use mathlib.Core.List.{List, [], ◌∷◌, ◌++◌, append_assoc, append-nil}
+use mathlib.Core.List.{List, [], ◌++◌, append_assoc, append-nil}
 use native.Mathlib.Omega.{arith}
 use borrow.Author.Tests.{eqb-true, le-leb}
 use lib.Dec.{eqb}
-use lib.ListN.{length, take, drop, length-append, take-append-drop}
+use lib.ListN.{length, take, length-append, take-append-drop}
 use Rattle.catalogue.specs.Catalogue.{edition_text}
 use Rattle.catalogue.proofs.DayLines.{edition-short}
 use Rattle.dated.specs.Dated.{day_bytes}
@@ -29,7 +29,6 @@ use Rattle.text.specs.Lines.{contents, Holds, refusal_line}
 use Rattle.text.proofs.Holding.{holds-length}
 use Rattle.text.specs.Sheets.{fits_at, put_at}
 use Rattle.text.proofs.Sheets.{put-length}
-use Rattle.explanation.specs.declared.Element.{Element}
 use Rattle.explanation.specs.declared.Element.TheVariants.{Unmet, Other}
 use Rattle.explanation.specs.Explanations.{element_in, elements_in, set_names, element_kind, kind_word, names_text, element_text, unfit, weekdays_text, verdict_of, answer_line, explanation_room}
 use Rattle.explanation.specs.Elements.{element_asked, element_of, element_for, element_line, element_front, element_end}

@@ -2,7 +2,6 @@
 -- measure is the weekdays left. Assumes nothing.
 use mathlib.Core.Path.{refl, ◌∙◌}
 use native.Mathlib.Omega.{arith}
-use Prim.Native.Nat.{◌-◌}
 use Rattle.explanation.proofs.Naming.{next-name, no-name-left}
 use Rattle.explanation.proofs.put_names.Goals as goal
 

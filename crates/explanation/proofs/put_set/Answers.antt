@@ -2,7 +2,6 @@
 -- measure is the numbers left. Assumes nothing.
 use mathlib.Core.Path.{refl, ◌∙◌}
 use native.Mathlib.Omega.{arith}
-use Prim.Native.Nat.{◌-◌}
 use Rattle.explanation.proofs.Naming.{next-number, no-number-left}
 use Rattle.explanation.proofs.put_set.Goals as goal
 

@@ -1,7 +1,6 @@
 -- `put_all` meets its contract: `Saying` holds before each line. Assumes nothing.
 use mathlib.Core.Path.{◌∙◌}
 use native.Mathlib.Omega.{arith}
-use lib.ListN.{length}
 use Rattle.remarks.proofs.Cases.{contents-length}
 use Rattle.remarks.proofs.Saying.{after_less, saying-start, same_size, line-room, saying-next, saying-end, last-room, saying-last}
 use Rattle.remarks.proofs.put_all.Goals as goal
