@@ -51,7 +51,7 @@ BACKWARDS = {"Moon's node"}
 
 # Source 002's equations of the centre, with b the bhuja in degrees over `part`: (whole − b) b / (first − (whole − b) b
 # / second) degrees. Its table 3: the Sun's apogee.
-EQUATIONS_002 = {"trueSun": (9, 20, 57, 9), "moonAlone": (6, 30, 56, 20)}
+EQUATIONS_002 = {"true_sun": (9, 20, 57, 9), "moon_alone": (6, 30, 56, 20)}
 SUN_APOGEE = (78,)
 
 # The older books. Source 000's table 4: circles in a Kalpa, days in a Mahāyuga, a thousandth of one. Source 003's
@@ -111,7 +111,7 @@ def seconds(angle):
 
 def table():
     """The rows (K, D, p, q) of the meaning's table."""
-    row = re.compile(r"record \{ K = (\d+); D = (\d+); p = (pos (\d+)|negℤ \(pos (\d+)\)); q = (\d+) \}")
+    row = re.compile(r"record \{ K = (\d+); D = (\d+); p = (pos (\d+)|neg_ℤ \(pos (\d+)\)); q = (\d+) \}")
     text = TABLE.read_text(encoding="utf-8")
     text = text[text.index("table =") : text.index("∷ []")]
     return [(int(k), int(d), int(f) if f else -int(b), int(q)) for k, d, _, f, b, q in row.findall(text)]
@@ -170,12 +170,12 @@ def equations():
     (648000 − s)."""
     text = EQUATIONS.read_text(encoding="utf-8")
     for name, (part, whole, first, second) in EQUATIONS_002.items():
-        found = [value(word, text) for word in re.search(rf"^{name} .*= trueLongitude (\w+) (\w+) (\w+)", text, re.M).groups()]
+        found = [value(word, text) for word in re.search(rf"^{name} .*= true_longitude (\w+) (\w+) (\w+)", text, re.M).groups()]
         unit = part * 3600
         same(f"{name}: half a circle", whole * unit, 648000)
         same(f"{name}: scale", found[0], 3600 * second)
         same(f"{name}: divisor", found[1], first * second * unit**2)
-        if name == "trueSun":
+        if name == "true_sun":
             same("the Sun's apogee", found[2], seconds(SUN_APOGEE))
 
 
@@ -183,11 +183,11 @@ def planet_tables():
     """The rows of the meaning's two tables, and the apogees."""
     text = PLANETS.read_text(encoding="utf-8")
     lists = {}
-    for name in ("sighraTable", "mandaTable", "planetApogees"):
+    for name in ("sighra_table", "manda_table", "planet_apogees"):
         body = text[text.index(f"{name} =") :].split("\n\n")[0]
         rows = re.findall(r"((?:\d+ ∷ )+)\[\]", body)
         lists[name] = [[int(n) for n in re.findall(r"\d+", row)] for row in rows]
-    return lists["sighraTable"], lists["mandaTable"], lists["planetApogees"][0]
+    return lists["sighra_table"], lists["manda_table"], lists["planet_apogees"][0]
 
 
 def on_line(row, arc):
@@ -236,7 +236,7 @@ def planets():
 def older():
     text = OLDER.read_text(encoding="utf-8")
     for name, (circles, days), (circles_003, days_003) in OLDER_BOOKS:
-        found = re.search(rf"^{name}Motion = .*circles = (\d+); days = (\d+)", text, re.M)
+        found = re.search(rf"^{name}_motion = .*circles = (\d+); days = (\d+)", text, re.M)
         same(f"{name}: circles and days of 000", tuple(map(int, found.groups())), (circles // 1000, days))
         same(f"{name}: circles and days of 003", tuple(map(int, found.groups())), (circles_003 // 1000, days_003 // 1000))
 
