@@ -49,8 +49,8 @@ def calls(names):
     found = {}
     for name in names:
         code = "\n".join(path.read_text(encoding="utf-8") for path in sorted((ROOT / "crates" / name / "src").rglob("*.rt")))
-        code = re.sub(r"^ghost use .*$|//.*$|(?:requires|ensures) \{.*$", "", code, flags=re.M)
-        found[name] = {other for other in re.findall(r"\b(\w+)::(?=\w*[a-z])", code) if other in names} - {name}
+        code = re.sub(r"^ghost use .*$|//.*$|(?:requires|ensures) (?:\w+ )?\{.*$", "", code, flags=re.M)
+        found[name] = {other for other in re.findall(r"\b(\w+)::(?=\{[^}]*[a-z]|\w*[a-z])", code) if other in names} - {name}
     return found
 
 
