@@ -7,10 +7,10 @@ ghost use Rattle.text.specs.Lines.{with_bytes, Holds, refusal_line};
 ghost use Rattle.date_lines.specs.Texts.{with_front};
 ghost use Rattle.conversion.specs.Conversion.{other_kind, printed, told, form_text, fault_text, fault_line};
 
-use std::io::Stdin;
 use date_lines::{Converted, Kind};
 use days::refusal;
 use output::STDOUT_FILENO;
+use std::io::Stdin;
 use text::Line;
 
 const MOST_LINES: usize = 4096;

