@@ -1,11 +1,10 @@
 -- `print_drifts` meets its contract: the lines from `from` to before `index` wait in the buffer (Waiting), and are
 -- printed where the next one does not fit and at the end.
 -- Assumes nothing.
-use Prim.Native.Nat.{◌+◌, ◌-◌, ◌≤◌}
+use Prim.Native.Nat.{◌+◌, ◌≤◌}
 use mathlib.Core.Bool.{false≢true}
 use mathlib.Core.Path.{◌≡◌, sym}
 use native.Mathlib.Omega.{arith}
-use lib.ListN.{length}
 use lib.Seq.{length-take-le}
 use borrow.Author.Rules.{rules}
 use Rattle.output.proofs.Printing.{waiting-line}

@@ -1,7 +1,7 @@
 -- `print_signs` meets its contract: the lines from `from` to before `index` wait in the buffer (Waiting), and are
 -- printed where the next one does not fit and at the end.
 -- Assumes nothing.
-use Prim.Native.Nat.{◌+◌, ◌-◌, ◌≤◌}
+use Prim.Native.Nat.{◌+◌, ◌≤◌}
 use mathlib.Core.Bool.{false≢true}
 use mathlib.Core.Path.{◌≡◌, ap, sym, ◌∙◌}
 use native.Mathlib.Omega.{arith}

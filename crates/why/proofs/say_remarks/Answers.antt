@@ -7,10 +7,10 @@ use Rattle.remarks.proofs.Putting.{said_fits, said-front}
 use Rattle.why.proofs.say_remarks.Goals as goal
 
 pub slice_bounds-buffer-end : goal.slice_bounds-buffer-end
-slice_bounds-buffer-end c = let put = c.put_remarks-bytes.ensures in said_fits _ _ _ _ put.0 put.1.0 (search rules) put.1.1
+slice_bounds-buffer-end c = let put = c.put_remarks-bytes.ensures in said_fits _ _ _ _ put.value put.buffer_after (search rules) put.upper_bound
 
 pub slice_bounds-say_all-end : goal.slice_bounds-say_all-end
-slice_bounds-say_all-end c = let put = c.put_remarks-bytes.ensures in put.0 ∙ ap length (sym (said-front _ _ _ _ put.0 put.1.0 (search rules) put.1.1))
+slice_bounds-say_all-end c = let put = c.put_remarks-bytes.ensures in put.value ∙ ap length (sym (said-front _ _ _ _ put.value put.buffer_after (search rules) put.upper_bound))
 
 pub say_all-requires : goal.say_all-requires
-say_all-requires c = let put = c.put_remarks-bytes.ensures in said-front _ _ _ _ put.0 put.1.0 (search rules) put.1.1
+say_all-requires c = let put = c.put_remarks-bytes.ensures in said-front _ _ _ _ put.value put.buffer_after (search rules) put.upper_bound
