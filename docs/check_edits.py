@@ -92,8 +92,8 @@ def changed(before, after):
 
 
 def answers(edit):
-    """The wrong answers of an edit, each under its comment: its changes, as a file's path, the old text and the new one,
-    and the fact that the comment names at its end."""
+    """The wrong answers of an edit, each under its comment: its changes, as a file's path, the old text and the new
+    one, and the fact that the comment names at its end."""
     found, path, old, above = [], "", "", False
     for line in edit.read_text(encoding="utf-8").splitlines():
         if not found or line.startswith("#") and not above:

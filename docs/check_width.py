@@ -13,7 +13,7 @@ import sys
 
 ROOT = pathlib.Path(__file__).resolve().parent.parent
 WIDEST = 120
-LEFT_OUT = {".git", "target"}
+LEFT_OUT = {".git", "target", "out"}
 LINE_COMMENT = {".rt": "//", ".antt": "--", ".edit": "#", ".sh": "#", ".py": "#", ".c": "//", ".h": "//", ".rs": "//"}
 # A word; what is quoted, and a link, are one if they are short.
 WORD = re.compile(r"(?:`[^`]{1,60}`|!?\[[^\]]{1,60}\]\([^)\s]*\)|\S)+")
