@@ -14,13 +14,13 @@ ghost use Rattle.search.specs.Days.{matching_days, visited_days};
 ghost use Rattle.search.specs.Spans.{between};
 ghost use Rattle.find.specs.Output.{heading_of, output_of, said_of, NextBytes, front_days, NextDays};
 
-use std::io::Stdin;
 use days::refusal;
-use output::STDOUT_FILENO;
 use names::Print;
+use output::STDOUT_FILENO;
 use page::PageRead;
 use query::Query;
 use search::Found;
+use std::io::Stdin;
 use text::Line;
 
 // The list's entries: it stands where the page's text was, which is not needed once it is read. A span with more

@@ -3,4 +3,4 @@ use native.Mathlib.Omega.{arith}
 use Rattle.find.proofs.main.Goals as goal
 
 pub read_and_find-requires : goal.read_and_find-requires
-read_and_find-requires c = (omega arith, omega arith)
+read_and_find-requires c = ?

@@ -17,7 +17,7 @@ loop-print-init c = printing-start _ _ _ _ _ c.requires.1 c.requires.2
 
 pub shape_of-buffer-then-bytes-eq0 : goal.shape_of-buffer-then-bytes-eq0
 shape_of-buffer-then-bytes-eq0 c =
-    c.lines_in-piece.auto.1.1.1.1.0 ∙ c.loop-print.invariant.same
+    c.lines_in-piece.auto.buffer ∙ c.loop-print.invariant.same
 
 pub returns-then-bytes-eq0 : goal.returns-then-bytes-eq0
 returns-then-bytes-eq0 c =
@@ -26,7 +26,7 @@ returns-then-bytes-eq0 c =
 pub slice_bounds-write_next-end : goal.slice_bounds-write_next-end
 slice_bounds-write_next-end c =
     let going = step _ _ _ _ _ _ _ _ c.loop-print.invariant _ _ (edition (goal.at.slice_bounds-write_next-end c).After-lines_in-piece) c.lines_in-piece.ensures.value c.lines_in-piece.ensures.buffer_after in
-    omega (arith, going.within, c.lines_in-piece.auto.1.1.1.1.0)
+    omega (arith, going.within, c.lines_in-piece.auto.buffer)
 
 pub slice_bounds-write_next-end-in-loop-print : goal.slice_bounds-write_next-end-in-loop-print
 slice_bounds-write_next-end-in-loop-print c =
@@ -39,7 +39,7 @@ write_next-requires c =
 
 pub shape_of-buffer-then-not-write_next : goal.shape_of-buffer-then-not-write_next
 shape_of-buffer-then-not-write_next c =
-    c.lines_in-piece.auto.1.1.1.1.0 ∙ c.loop-print.invariant.same
+    c.lines_in-piece.auto.buffer ∙ c.loop-print.invariant.same
 
 pub returns-then-not-write_next : goal.returns-then-not-write_next
 returns-then-not-write_next c = λ e. absurd (false≢true e)
@@ -54,4 +54,4 @@ loop-print-smaller c =
 
 pub loop-print-preserved : goal.loop-print-preserved
 loop-print-preserved c =
-    printing-step _ _ _ _ _ _ _ _ c.loop-print.invariant _ _ (edition (goal.at.loop-print-preserved c).After-lines_in-piece) c.lines_in-piece.ensures.value c.lines_in-piece.ensures.buffer_after c.lines_in-piece.auto.1.1.1.1.0
+    printing-step _ _ _ _ _ _ _ _ c.loop-print.invariant _ _ (edition (goal.at.loop-print-preserved c).After-lines_in-piece) c.lines_in-piece.ensures.value c.lines_in-piece.ensures.buffer_after c.lines_in-piece.auto.buffer

@@ -9,7 +9,7 @@ use Rattle.find.proofs.print_heading.Goals as goal
 
 pub slice_bounds-write_next-end : goal.slice_bounds-write_next-end
 slice_bounds-write_next-end c =
-    omega (arith, heading-short c.args.print _ c.requires.query_value.0, heading-bytes _ _ c.requires.query_value.0 _ _ c.requires.length_value.0 c.requires.length_value.1 _ c.requires.query_value.1 _ _ c.heading_in-piece.ensures.value c.heading_in-piece.ensures.buffer_after, c.heading_in-piece.auto.1.1.1.1.0)
+    omega (arith, heading-short c.args.print _ c.requires.query_value.0, heading-bytes _ _ c.requires.query_value.0 _ _ c.requires.length_value.0 c.requires.length_value.1 _ c.requires.query_value.1 _ _ c.heading_in-piece.ensures.value c.heading_in-piece.ensures.buffer_after, c.heading_in-piece.auto.buffer)
 
 pub slice_bounds-write_next-end-2 : goal.slice_bounds-write_next-end-2
 slice_bounds-write_next-end-2 c =

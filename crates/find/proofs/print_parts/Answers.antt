@@ -1,5 +1,6 @@
 -- `print_parts` meets its contract: the output from the bytes written on is the lines of the days that are left of the
 -- span (Parting). Assumes nothing.
+use borrow.Author.Tests.{not-true, not-false}
 use Prim.Native.Nat.{◌-◌, ◌≤◌}
 use mathlib.Core.Bool.{false≢true}
 use mathlib.Core.Path.{refl, sym, ◌∙◌}
@@ -23,14 +24,14 @@ print_listed-printed-requires c =
 
 pub shape_of-list-then-not-printed : goal.shape_of-list-then-not-printed
 shape_of-list-then-not-printed c =
-    c.search-found.auto.1.0 ∙ c.loop-first.invariant.0
+    c.search-found.auto.list ∙ c.loop-first.invariant.0
 
 pub shape_of-buffer-then-not-printed : goal.shape_of-buffer-then-not-printed
 shape_of-buffer-then-not-printed c =
-    c.print_listed-printed.auto.1.1.1.1.1.0 ∙ c.loop-first.invariant.1
+    c.print_listed-printed.auto.buffer ∙ c.loop-first.invariant.1
 
 pub returns-then-not-printed : goal.returns-then-not-printed
-returns-then-not-printed c = λ e. absurd (false≢true (sym c.if-not-printed.true ∙ e))
+returns-then-not-printed c = λ e. absurd (false≢true (sym (not-true _ c.if-not-printed.true) ∙ e))
 
 pub overflow_add-first : goal.overflow_add-first
 overflow_add-first c =
@@ -47,7 +48,7 @@ loop-first-preserved c =
     let low = c.part_end-last.ensures.0 in
     let high = c.part_end-last.ensures.1 in
     let filled = part_filled _ _ c.requires.query_value.0 _ _ _ c.loop-first.invariant.2 low high _ _ _ found c.part_end-last.ensures.2 room in
-    (c.search-found.auto.1.0 ∙ c.loop-first.invariant.0, c.print_listed-printed.auto.1.1.1.1.1.0 ∙ c.loop-first.invariant.1, parting-step _ _ c.requires.query_value.0 _ _ _ c.loop-first.invariant.2 low high _ _ _ filled _ (c.print_listed-printed.ensures c.if-not-printed.false))
+    (c.search-found.auto.list ∙ c.loop-first.invariant.0, c.print_listed-printed.auto.buffer ∙ c.loop-first.invariant.1, parting-step _ _ c.requires.query_value.0 _ _ _ c.loop-first.invariant.2 low high _ _ _ filled _ (c.print_listed-printed.ensures (not-false _ c.if-not-printed.false)))
 
 pub shape_of-list : goal.shape_of-list
 shape_of-list c = c.loop-first.invariant.0

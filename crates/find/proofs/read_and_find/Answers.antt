@@ -7,11 +7,10 @@ use Rattle.find.proofs.read_and_find.Goals as goal
 pub refuse-requires : goal.refuse-requires
 refuse-requires c =
     small-number _ _ c.read-read.ensures
-    (omega (arith, c.read_input-n.ensures.0, c.read_input-n.ensures.1, c.read_input-n.auto.0, c.requires.0))
+    (omega (arith, c.read_input-n.ensures.0, c.read_input-n.ensures.1, c.read_input-n.auto.buffer, c.requires.0))
 
 pub find_days-requires : goal.find_days-requires
-find_days-requires c =
-    (
-      accepted-query _ _ c.read-read.ensures c.if-read-ne-NONE.false,
-      omega (arith, c.read_input-n.auto.0, c.requires.1),
-    )
+find_days-requires c = (
+  accepted-query _ _ c.read-read.ensures c.if-read-ne-NONE.false,
+  omega (arith, c.read_input-n.auto.buffer, c.requires.1),
+)

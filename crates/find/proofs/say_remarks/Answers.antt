@@ -7,10 +7,10 @@ use Rattle.remarks.proofs.Putting.{said_fits, said-front}
 use Rattle.find.proofs.say_remarks.Goals as goal
 
 pub slice_bounds-buffer-end : goal.slice_bounds-buffer-end
-slice_bounds-buffer-end c = let page = c.of_page-bytes.ensures in said_fits _ _ _ _ page.0 page.1.0 (search rules) page.1.1
+slice_bounds-buffer-end c = let page = c.of_page-bytes.ensures in said_fits _ _ _ _ page.value page.buffer_after (search rules) page.upper_bound
 
 pub slice_bounds-say_all-end : goal.slice_bounds-say_all-end
-slice_bounds-say_all-end c = let page = c.of_page-bytes.ensures in page.0 ∙ ap length (sym (said-front _ _ _ _ page.0 page.1.0 (search rules) page.1.1))
+slice_bounds-say_all-end c = let page = c.of_page-bytes.ensures in page.value ∙ ap length (sym (said-front _ _ _ _ page.value page.buffer_after (search rules) page.upper_bound))
 
 pub say_all-requires : goal.say_all-requires
-say_all-requires c = let page = c.of_page-bytes.ensures in said-front _ _ _ _ page.0 page.1.0 (search rules) page.1.1
+say_all-requires c = let page = c.of_page-bytes.ensures in said-front _ _ _ _ page.value page.buffer_after (search rules) page.upper_bound
