@@ -28,13 +28,13 @@ unfoldable pub first_anomaly : ℕ → ℕ → ℕ → ℕ
 first_anomaly p sun own = cond (is_inner p) own (difference_of sun own)
 
 -- the planet with the number p among the nine bodies, which have Mars fifth: its mean longitude, or its mean anomaly
-abbrev pub field_own : ℕ → Day → ℕ
-field_own p d = longitude_at (body_number Mars + p) d
+abbrev pub own_at : ℕ → Day → ℕ
+own_at p d = longitude_at (body_number Mars + p) d
 
 unfoldable pub true_planet_at : ℕ → Day → ℕ
 true_planet_at p d =
     let sun : ℕ = longitude_at (body_number Sun) d in
-    let own : ℕ = field_own p d in
+    let own : ℕ = own_at p d in
     true_planet (row_of p) (mean_planet p sun own) (first_anomaly p sun own)
 
 unfoldable pub true_planets_at : Day → List ℕ
