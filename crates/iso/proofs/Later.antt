@@ -7,8 +7,8 @@ use native.Mathlib.Omega.{arith}
 use lib.Dec.{leb, ltb, eqb}
 use borrow.Author.Tests.{ltb-true, eqb-true, eqb-false, lt-ltb, le-leb, ne_eqb}
 use Rattle.civil.specs.declared.Date.{Date}
-use Rattle.civil.specs.Calendar.{leap, month_days, lost, date_exists, same_date, last_julian, next, date_on}
-use Rattle.civil.specs.Serial.{march_year, since_march, before, year_day, year_start, gregorian, serial_of, epoch_serial, gregorian_serial, last_julian_stamp, stamp}
+use Rattle.civil.specs.Calendar.{leap, month_days, lost, date_exists, same_date, next, date_on}
+use Rattle.civil.specs.Serial.{march_year, since_march, before, year_day, year_start, serial_of, epoch_serial, gregorian_serial, last_julian_stamp, stamp}
 use Rattle.civil.proofs.Years.{century, in_century, year_within, century-start, gregorian-year}
 use Rattle.civil.proofs.Months.{month_at}
 use Rattle.civil.proofs.Dates.{year_of, day_of, real_of}

@@ -1,7 +1,7 @@
 -- The number of a name, and the name of a number. A name is read in two spellings, both in any letter case, and printed
 -- in the plain one. A karana's number counts from 1, all others from 0.
 -- Assumes nothing.
-use Rattle.std.specs.Prelude.{cond, List, [], map, ℕ, ◌+◌, ◌-◌, ltb, length}
+use Rattle.std.specs.Prelude.{cond, List, [], map, ℕ, ◌+◌, ◌-◌, ltb}
 use Rattle.days.specs.declared.NumberAnswer.{NumberAnswer}
 use Rattle.days.specs.Days.{the_number, no_number}
 use Rattle.days.specs.Refusals.{bad_input}

@@ -1,7 +1,7 @@
 -- The arc at the front of a text, case by case: a start and a width, a sign, a start and an end; and the arcs of a
 -- line.
 -- Assumes nothing.
-use mathlib.Core.Path.{◌≡◌, ap, ◌∙◌}
+use mathlib.Core.Path.{◌≡◌, ◌∙◌}
 use mathlib.Core.Bool.{Bool, true, false}
 use mathlib.Core.List.{List}
 use Prim.Native.Nat.{ℕ}

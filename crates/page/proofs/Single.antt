@@ -12,7 +12,6 @@ use Rattle.days.specs.declared.NumberAnswer.{NumberAnswer}
 use Rattle.days.specs.Days.{the_number, no_number}
 use Rattle.days.specs.Refusals.{bad_input}
 use Rattle.names.specs.declared.Kind.{Kind}
-use Rattle.names.specs.declared.Kind.TheVariants.{Tithi, Nakshatra, Yoga, Karana}
 use Rattle.query.specs.Conditions.{number_bit}
 use Rattle.text.specs.Decimal.{number_read}
 use Rattle.values.specs.Values.{is_read, is_weekday, value_read, with_number_read, with_value, set_read, set_of}

@@ -12,7 +12,6 @@ use Rattle.days.specs.Days.{in_range, the_number, no_number, on_day}
 use Rattle.days.proofs.Laws.{given, refused}
 use Rattle.longitudes.specs.Longitudes.{circle, longitude_at}
 use Rattle.longitudes.proofs.Table.{longitude-small}
-use Rattle.panchanga.specs.declared.Panchanga.{Panchanga}
 use Rattle.panchanga.specs.TrueLongitudes.{first_edition, is_edition}
 use Rattle.panchanga.specs.OnDays.{true_sun_at, true_moon_at, tithi_at, nakshatra_at, yoga_at, karana_at, lights_of, no_panchanga, panchanga_of, panchanga_by, tithi_by, in_edition}
 use Rattle.panchanga.specs.Parts.{refusal_for}

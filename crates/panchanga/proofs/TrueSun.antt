@@ -11,7 +11,7 @@ use lib.Dec.{leb}
 use borrow.Author.Tests.{le-leb, lt-leb}
 use Rattle.longitudes.specs.Longitudes.{circle}
 use Rattle.longitudes.proofs.Subtraction.{difference-law, difference-small}
-use Rattle.panchanga.specs.TrueLongitudes.{bhuja, bhuja_product, equation, true_longitude, sun_anomaly, sun_equation, largest_sun_equation, true_sun}
+use Rattle.panchanga.specs.TrueLongitudes.{bhuja_product, equation, true_longitude, sun_anomaly, sun_equation, largest_sun_equation, true_sun}
 use Rattle.panchanga.proofs.Naturals.{added, subtracted, first-half, second-half}
 
 -- the equation by Q, and by an anomaly in its half circle

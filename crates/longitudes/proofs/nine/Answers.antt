@@ -1,7 +1,6 @@
 -- `nine` meets its contract: the bodies below `i` have their longitudes and thirds in the two arrays.
 use borrow.Author.Count.{below_none}
 use mathlib.Core.Path.{◌≡◌, refl, sym, ap, ◌∙◌}
-use Prim.Native.Nat.{◌-◌}
 use native.Mathlib.Omega.{arith}
 use lib.ListN.{get_or}
 use Rattle.longitudes.specs.declared.MeanLongitude.{MeanLongitude}

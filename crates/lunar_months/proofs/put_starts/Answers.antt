@@ -1,5 +1,4 @@
 -- `put_starts` meets its contract. The loop's invariant is `Finding`; the measure is the days left.
-use Prim.Native.Nat.{◌-◌}
 use Rattle.lunar_months.proofs.Finding.{finding-start, finding-one, finding-none, finding-counted, finding-put}
 use Rattle.lunar_months.proofs.put_starts.Goals as goal
 use Rattle.lunar_months.proofs.put_starts.Goals.{then-tithi-before, else-tithi-before}

@@ -1,11 +1,9 @@
 -- `put_blanks` meets its contract. The loop's invariant: with the blanks from this column on, the line is the whole.
 -- The measure is the columns left. Assumes nothing.
 use mathlib.Core.Path.{refl, ap, sym, ◌∙◌}
-use Prim.Native.Nat.{◌-◌}
 use native.Mathlib.Omega.{arith}
 use Rattle.text.specs.Lines.{space, with_bytes}
 use Rattle.text.proofs.Lines.{with-bytes-none, with-bytes-more}
-use Rattle.names.specs.Columns.{blanks}
 use Rattle.names.proofs.Columns.{blanks-more, blanks-none}
 use Rattle.names.proofs.put_blanks.Goals as goal
 

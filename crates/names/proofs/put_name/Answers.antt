@@ -1,6 +1,5 @@
 -- `put_name` meets its contract: a number before the first has no name. Assumes nothing.
 use mathlib.Core.Path.{sym}
-use Prim.Native.Nat.{◌-◌}
 use borrow.Author.Tests.{lt-ltb, le-ltb}
 use Rattle.names.specs.Names.{name_of}
 use Rattle.names.proofs.put_name.Goals as goal

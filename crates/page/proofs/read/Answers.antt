@@ -1,7 +1,6 @@
 -- `read` meets its contract: `Reading` holds before each line. Assumes nothing.
 use mathlib.Core.Path.{sym, ap, ◌∙◌}
 use native.Mathlib.Omega.{arith}
-use lib.ListN.{length}
 use Rattle.words.proofs.Pieces.{after-shorter}
 use Rattle.page.specs.Page.{page_answer}
 use Rattle.page.proofs.Reading.{reading-start, reading-next, reading-not-ended, reading-end}

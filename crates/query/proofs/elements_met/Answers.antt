@@ -1,7 +1,7 @@
 -- `elements_met` meets its contract: no edition decides, then a pair out of range; with no element of both lights asked
 -- for the nakshatra, else the elements in turn.
 use borrow.Author.Tests.{not-true}
-use mathlib.Core.Bool.{not, true, and-false}
+use mathlib.Core.Bool.{true, and-false}
 use mathlib.Core.Path.{◌≡◌, sym, ap, ◌∙◌}
 use Rattle.days.specs.Days.{in_range}
 use Rattle.panchanga.specs.TrueLongitudes.{is_edition}

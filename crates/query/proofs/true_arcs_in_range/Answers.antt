@@ -1,8 +1,6 @@
 -- `true_arcs_in_range` meets its contract. The loop's invariant: the arcs of each body passed are in range. The measure
 -- is the bodies left.
 use mathlib.Core.Path.{sym, ◌∙◌}
-use mathlib.Core.Bool.{true}
-use Prim.Native.Nat.{◌-◌}
 use native.Mathlib.Omega.{arith}
 use borrow.Author.Count.{below_none, below_more}
 use Rattle.query.proofs.Conditions.{true-arcs-true, true-arcs-false}

@@ -1,11 +1,8 @@
 -- `true_arcs_met` meets its contract. The loop's invariant: the true longitude of each body passed will do. The measure
 -- is the bodies left.
 use mathlib.Core.Path.{◌≡◌, sym, ◌∙◌}
-use mathlib.Core.Bool.{true}
-use Prim.Native.Nat.{◌-◌}
 use native.Mathlib.Omega.{arith}
 use borrow.Author.Count.{below_none, below_more}
-use borrow.Author.Tests.{not-true}
 use Rattle.query.specs.Conditions.{place_met}
 use Rattle.query.proofs.Conditions.{places-met, place-not-met}
 use Rattle.query.proofs.TrueBodies.{in_order}

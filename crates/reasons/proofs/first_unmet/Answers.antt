@@ -1,7 +1,6 @@
 -- `first_unmet` meets its contract: the conditions are tested one after another, and each that holds leaves those
 -- behind it. Assumes nothing.
 use borrow.Author.Tests.{le-leb, lt-leb}
-use mathlib.Core.Bool.{true}
 use mathlib.Core.Path.{◌≡◌, ap, ◌∙◌}
 use Prim.Native.Nat.{ℕ, ◌≤◌}
 use lib.ListN.{drop}

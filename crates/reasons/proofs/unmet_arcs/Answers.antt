@@ -2,15 +2,11 @@
 -- all. The measure is the bodies left. Assumes nothing.
 use mathlib.Core.Path.{refl, ◌∙◌}
 use native.Mathlib.Omega.{arith}
-use Prim.Native.Nat.{ℕ, ◌-◌}
-use Rattle.days.specs.declared.Day.{Day}
 use Rattle.longitudes.specs.Longitudes.{longitude_at}
-use Rattle.query.specs.declared.Query.{Query}
 use Rattle.query.specs.Conditions.{body_met}
-use Rattle.reasons.specs.Conditions.{Cause, arcs_asked, true_conditions}
 use Rattle.reasons.specs.Reasons.{cause_of}
 use Rattle.reasons.specs.Parts.{TestedFor}
-use Rattle.reasons.proofs.Rows.{unmet_from, one-met, one-unmet, row_ends, in_order}
+use Rattle.reasons.proofs.Rows.{one-met, one-unmet, row_ends, in_order}
 use Rattle.reasons.proofs.unmet_arcs.Goals as goal
 use Rattle.reasons.proofs.unmet_arcs.Goals.{After-test_arcs-tested}
 

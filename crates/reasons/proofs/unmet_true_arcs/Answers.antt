@@ -1,17 +1,13 @@
 -- `unmet_true_arcs` meets its contract. The loop's invariant: the first that is not met from this place on is the first
 -- of all. The measure is the places left. Assumes nothing.
 use mathlib.Core.Path.{refl, ◌∙◌}
-use mathlib.Core.List.{List, []}
 use native.Mathlib.Omega.{arith}
-use Prim.Native.Nat.{ℕ, ◌-◌}
-use Rattle.days.specs.declared.Day.{Day}
-use Rattle.query.specs.declared.BodyArcs.{BodyArcs}
 use Rattle.query.specs.Conditions.{place_met, true_longitude_at}
 use Rattle.query.proofs.TrueBodies.{in_order}
-use Rattle.reasons.specs.Conditions.{Cause, true_arcs_asked, row, first_unmet}
+use Rattle.reasons.specs.Conditions.{row, first_unmet}
 use Rattle.reasons.specs.Reasons.{cause_of}
 use Rattle.reasons.specs.Parts.{TestedFor}
-use Rattle.reasons.proofs.Rows.{unmet_from, one-met, one-unmet, row_ends}
+use Rattle.reasons.proofs.Rows.{one-met, one-unmet, row_ends}
 use Rattle.reasons.proofs.unmet_true_arcs.Goals as goal
 use Rattle.reasons.proofs.unmet_true_arcs.Goals.{After-test_true_arcs-tested}
 

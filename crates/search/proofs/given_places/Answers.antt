@@ -1,7 +1,5 @@
 -- `given_places` meets its contract. The loop's invariant is `Counting`. The measure is the places left.
-use Prim.Native.Nat.{◌-◌}
 use native.Mathlib.Omega.{arith}
-use mathlib.Core.Logic.{⊎_elim}
 use mathlib.Core.Path.{sym, ◌∙◌}
 use Rattle.search.proofs.Others.{counting-start, counting-given, counting-not, counting-end}
 use Rattle.search.proofs.given_places.Goals as goal

@@ -1,7 +1,7 @@
 -- `other_arcs_given` meets its contract. The loop's invariant: no arc passed is given. The measure is the arcs left.
 use mathlib.Core.Path.{◌≡◌, sym, ◌∙◌}
 use mathlib.Core.Bool.{false}
-use Prim.Native.Nat.{ℕ, ◌<◌, ◌-◌}
+use Prim.Native.Nat.{ℕ, ◌<◌}
 use native.Mathlib.Omega.{arith}
 use borrow.Author.Count.{below_more}
 use Rattle.query.specs.Conditions.{arcs_given, arcs_at}

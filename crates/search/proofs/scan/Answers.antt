@@ -1,6 +1,6 @@
 -- `scan` meets its contract. The loop's invariant is `Scanning`: the visit reached, the days put, the last match and
 -- the visit to resume at. The measure is the days left.
-use Prim.Native.Nat.{◌-◌, ◌≤◌}
+use Prim.Native.Nat.{◌≤◌}
 use mathlib.Core.Path.{refl}
 use native.Mathlib.Omega.{arith}
 use Rattle.days.specs.Days.{last_day}

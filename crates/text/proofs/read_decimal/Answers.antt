@@ -1,5 +1,4 @@
 -- `text::read_decimal` meets its contract: what `Reading` says holds before each digit is read. Assumes nothing.
-use Prim.Native.Nat.{◌-◌}
 use mathlib.Core.Path.{sym, ◌∙◌}
 use native.Mathlib.Omega.{arith}
 use Rattle.text.proofs.Reading.{read_none, read-long, below-digits, above-digits, reading-start, reading-fits, reading-bad, reading-next, reading-end}

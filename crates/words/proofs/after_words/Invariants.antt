@@ -1,7 +1,6 @@
 -- What each turn of the loop keeps, and what falls.
 use mathlib.Core.Path.{◌≡◌}
-use Prim.Native.Nat.{◌-◌}
-use Rattle.words.specs.Words.{after_word, after_words}
+use Rattle.words.specs.Words.{after_words}
 use Rattle.words.proofs.after_words.Given as goal
 
 abbrev pub invariant-loop-more : goal.invariant-loop-more

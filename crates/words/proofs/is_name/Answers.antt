@@ -1,8 +1,6 @@
 -- `is_name` meets its contract: `Comparing` holds before each byte. Assumes nothing.
-use Prim.Native.Nat.{◌-◌}
 use mathlib.Core.Path.{sym, ◌∙◌}
 use native.Mathlib.Omega.{arith}
-use lib.ListN.{length}
 use Rattle.words.proofs.Letters.{comparing-start, comparing-next, comparing-differs, comparing-end, other_length}
 use Rattle.words.proofs.is_name.Goals as goal
 

@@ -1,7 +1,6 @@
 -- `place_in` meets its contract: `Placing` holds before each name. Assumes nothing.
 use mathlib.Core.Path.{sym, ◌∙◌}
 use native.Mathlib.Omega.{arith}
-use lib.ListN.{length}
 use Rattle.words.proofs.Pieces.{after-shorter}
 use Rattle.words.proofs.Places.{placing-start, first-same, placing-found, placing-end, placing-next}
 use Rattle.words.proofs.place_in.Goals as goal

@@ -1,5 +1,4 @@
 -- `run_length` meets its contract: before each byte, the bytes passed belong to the run. Assumes nothing.
-use Prim.Native.Nat.{◌-◌}
 use mathlib.Core.Path.{sym, ◌∙◌}
 use native.Mathlib.Omega.{arith}
 use Rattle.words.proofs.Runs.{running-on, running-stops, running-end}

@@ -1,5 +1,4 @@
 -- `text::Line::numbers` meets its contract: what `Putting` says holds before each number is put. Assumes nothing.
-use Prim.Native.Nat.{◌-◌}
 use mathlib.Core.Path.{refl}
 use Rattle.text.proofs.Putting.{numbers-next, numbers-end}
 use Rattle.text.proofs.Line.numbers.Goals as goal

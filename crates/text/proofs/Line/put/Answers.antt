@@ -1,11 +1,10 @@
 -- `text::Line::put` meets its contract: before byte i of the contents is copied, the first i of them are. Assumes
 -- nothing.
-use Prim.Native.Nat.{◌-◌}
 use mathlib.Core.Path.{◌≡◌, refl}
 use native.Mathlib.Omega.{arith}
 use native.Mathlib.Numerals.{add-one}
 use lib.ListN.{length, length-set}
-use lib.Seq.{paste, paste-zero, paste-suc}
+use lib.Seq.{paste-zero, paste-suc}
 use borrow.Author.Rules.{rules}
 use Rattle.text.proofs.Sheets.{not-put, contents-length, contents-put}
 use Rattle.text.proofs.Line.put.Goals as goal

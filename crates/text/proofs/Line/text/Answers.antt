@@ -1,7 +1,5 @@
 -- `text::Line::text` meets its contract: the bytes left, put on the line so far, make the line meant. Assumes nothing.
-use Prim.Native.Nat.{◌-◌}
 use mathlib.Core.Path.{refl}
-use mathlib.Core.Logic.{⊎_elim}
 use native.Mathlib.Omega.{arith}
 use Rattle.text.proofs.Putting.{putting-fits, putting-full, putting-end}
 use Rattle.text.proofs.Line.text.Goals as goal
