@@ -26,8 +26,8 @@ use Rattle.host.specs.Calls.{on_number}
 use Rattle.host.specs.HostQuery.{host_query}
 use Rattle.host.proofs.OnNumbers.{pair-past-last, on-number}
 
--- the answers for the day number n: its date, and what is reckoned from `pair_at n`, which the calls make of n also past
--- the last day
+-- the answers for the day number n: its date, and what is reckoned from `pair_at n`, which the calls make of n also
+-- past the last day
 pub record Refused (n refusal : ℕ) : Type 0 where
   pub date : (date_of_day n).refusal ≡ refusal
   pub longitudes : (longitudes_of (pair_at n)).refusal ≡ refusal

@@ -1,5 +1,5 @@
--- `fill_records` meets its contract, case by case: behind the first loop every day is in range, so that each turn of the
--- second may fill its record, and behind that all are filled.
+-- `fill_records` meets its contract, case by case: behind the first loop every day is in range, so that each turn of
+-- the second may fill its record, and behind that all are filled.
 -- Assumes nothing.
 use Rattle.std.proofs.Common.{◌≡◌, ◌≤◌, sym, ap, ◌∙◌, length, arith}
 use Rattle.days.specs.Days.{last_day}
