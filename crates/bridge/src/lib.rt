@@ -7,10 +7,10 @@
 // given and set; and for each true longitude its first and its second arc.
 #![tactic(auto)]
 
-mod blocks;
 mod bodies;
 mod drifts;
 mod elements;
+mod file_blocks;
 mod five;
 mod iso_dates;
 mod looks;

@@ -4,7 +4,7 @@ use mathlib.Core.Path.{ap, ap₂, ◌∙◌}
 use Rattle.almanac.specs.declared.Reading.{Reading}
 use Rattle.almanac.specs.declared.Transfer.{Transfer}
 use Rattle.almanac.specs.Reading.{ended, listing_of}
-use Rattle.bridge.proofs.blocks.bridge_almanac_read_blocks.Goals as goal
+use Rattle.bridge.proofs.file_blocks.bridge_almanac_read_blocks.Goals as goal
 
 pub returns : goal.returns
 unfolding listing_of
