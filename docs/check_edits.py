@@ -43,7 +43,7 @@ FUNCTION = re.compile(r"fn (\S+): (proved|not proved|no proof)(.*)")
 OPEN = re.compile(r"note: src/\S+: it is not proved that .*? \(`([^\s`]+)`\)(.*)")
 FALSE = "allow values at which this goal is false"
 # What the prover says where a proof no longer fits the code.
-UNFIT = re.compile(r"can be named from here|has no field|was not admitted|not in scope|is no module|no module is found|which was rejected|differ (only )?where one has `\S+\.Lts\.[A-Z]")
+UNFIT = re.compile(r"can be named from here|has no field|\(nearest: \.|was not admitted|not in scope|is no module|no module is found|which was rejected|differ (only )?where one has `\S+\.Lts\.[A-Z]")
 NAME = re.compile(r"`(?:(\w+)/must-fail/)?([a-z]\w*_\w+)(\.edit)?`")
 
 
