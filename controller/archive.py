@@ -2,7 +2,6 @@
 import concurrent.futures
 import os
 import pathlib
-import platform
 import shutil
 import subprocess
 
@@ -12,8 +11,9 @@ from objects import Object, total
 
 ROOT = pathlib.Path(__file__).resolve().parent.parent
 OUT = ROOT / "target" / "controller"
-# Where the kit's clang stands in its folder.
-CLANG = ["on", platform.machine(), "toolchain", "bin", "clang"]
+# Where the kit's clang stands in its folder, and rt, which takes the folder above its own for its kit.
+CLANG = ["toolchain", "bin", "clang"]
+RT = ["bin", "rt"]
 
 
 class Failed(Exception):
@@ -64,40 +64,35 @@ def run(words, what, **more):
 
 
 def link_all(folder, links, but):
-    """Links to all that a folder holds, but for one name."""
+    """Links to all that a folder holds, but for some names."""
     links.mkdir()
     for entry in folder.iterdir():
-        if entry.name != but:
+        if entry.name not in but:
             (links / entry.name).symlink_to(entry)
 
 
 def kit():
     """The folder of the kit, from the path of its guide."""
-    return pathlib.Path(run(["rt", "doc"], "rt does not say where its kit is")).parent.parent
-
-
-def own_root(room):
-    """A folder in which rt finds the repository's crates and what is proved of them, and keeps its logs and archives
-    apart: so it can run beside an rt in the repository."""
-    (room / "target").mkdir(parents=True)
-    for name in ("crates", "crates.txt"):
-        (room / name).symlink_to(ROOT / name)
-    for name in ("rlib", "stamp"):
-        (ROOT / "target" / name).mkdir(parents=True, exist_ok=True)
-        (room / "target" / name).symlink_to(ROOT / "target" / name)
+    return pathlib.Path(run(["rt", "doc"], "rt does not say where its kit is")).parent
 
 
 def proved_module():
-    """The module that rt compiles once it has proved the library. rt is given a folder of links to its kit, in which
-    clang is a script that keeps the module and calls the real one. (The script has an empty environment, so all names
-    in it are whole.)"""
-    real, room, links, kept = kit(), OUT / "room", OUT / "kit", OUT / "module.bc"
-    for made in (room, links):
-        shutil.rmtree(made, ignore_errors=True)
-    own_root(room)
-    clang, script = real.joinpath(*CLANG), links.joinpath(*CLANG)
-    for depth, name in enumerate(CLANG):
-        link_all(real.joinpath(*CLANG[:depth]), links.joinpath(*CLANG[:depth]), name)
+    """The module that rt compiles once it has proved the library. rt is run a second time, over what it proved: out of a
+    folder of links to its kit, in which clang is a script that keeps the module and calls the real one. (The script has
+    an empty environment, so all names in it are whole.)"""
+    real, room, kept, crate = kit(), OUT / "room", OUT / "module.bc", ROOT / "crates" / "host"
+    links, clang = room / "kit", real.joinpath(*CLANG)
+    run(["rt", "lib"], "the library is not proved", cwd=crate)
+    shutil.rmtree(room, ignore_errors=True)
+    room.mkdir()
+    link_all(real, links, [CLANG[0], RT[0]])
+    link_all(real / CLANG[0], links / CLANG[0], [CLANG[1]])
+    link_all(clang.parent, links / CLANG[0] / CLANG[1], [CLANG[2]])
+    own = ["rt", "rtlib.py"]
+    link_all(real / RT[0], links / RT[0], own)
+    for name in own:
+        shutil.copy2(real / RT[0] / name, links / RT[0] / name)
+    script = links.joinpath(*CLANG)
     script.write_text(f"""#!/bin/sh
 for word; do
     case $word in
@@ -111,9 +106,8 @@ exec '{clang}' "$@"
 """, encoding="utf-8")
     script.chmod(0o755)
     try:
-        run(["rt", "staticlib", "host"], "the library is not proved", cwd=room, env={**os.environ, "RATTLE_HOME": str(links)})
+        run([links.joinpath(*RT), "lib"], "the library is not proved", cwd=crate)
     finally:
-        shutil.rmtree(links)
         shutil.rmtree(room)
     if not kept.is_file():
         raise Failed("rt compiled no module")
