@@ -77,9 +77,9 @@ def kit():
 
 
 def proved_module():
-    """The module that rt compiles once it has proved the library. rt is run a second time, over what it proved: out of a
-    folder of links to its kit, in which clang is a script that keeps the module and calls the real one. (The script has
-    an empty environment, so all names in it are whole.)"""
+    """The module that rt compiles once it has proved the library. rt is run a second time, over what it proved: out of
+    a folder of links to its kit, in which clang is a script that keeps the module and calls the real one. (The script
+    has an empty environment, so all names in it are whole.)"""
     real, room, kept, crate = kit(), OUT / "room", OUT / "module.bc", ROOT / "crates" / "host"
     links, clang = room / "kit", real.joinpath(*CLANG)
     run(["rt", "lib"], "the library is not proved", cwd=crate)
