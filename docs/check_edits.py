@@ -24,6 +24,7 @@ docs/contracts.md must name every edit, and no edit that is not there.
                                            there is a complaint. What a check said is kept in target/must-fail/ and read
                                            again as long as nothing that it stands on changes"""
 import concurrent.futures
+import fcntl
 import hashlib
 import os
 import pathlib
@@ -36,6 +37,7 @@ import tempfile
 ROOT = pathlib.Path(__file__).resolve().parent.parent
 PAGE = ROOT / "docs/contracts.md"
 LOGS = ROOT / "target/must-fail"
+COPIES = pathlib.Path(tempfile.gettempdir()) / f"check-edits-{hashlib.sha256(str(ROOT).encode()).hexdigest()[:16]}"
 PARTS = ("src", "specs", "proofs")
 ITEM = re.compile(r'( *)(?:pub )?(?:extern "C" )?(fn|const|struct|impl|mod) (\w+)')
 ERROR = re.compile(r"(?:\./)?(proofs/\S+\.antt):\d+:\d+: error: (?:`(\S+)`: )?(.*)")
@@ -214,10 +216,13 @@ def linked(one, other):
 
 
 class Copy:
-    """A copy of the repository's crates, in which the edits of one of them are made and checked."""
+    """A copy of the repository's crates, in which the edits of one of them are made and checked. It stands in a folder
+    of the same name each time: `rt` remembers where checks left what they keep."""
 
-    def __init__(self, crate, room):
-        self.name, self.top, self.texts = crate, pathlib.Path(room), {}
+    def __init__(self, crate):
+        self.name, self.top, self.texts = crate, COPIES / crate, {}
+        shutil.rmtree(self.top, ignore_errors=True)
+        self.top.mkdir(parents=True)
         for name in ("crates.txt", "HANDLES"):
             if (ROOT / name).is_file():
                 shutil.copy2(ROOT / name, self.top / name)
@@ -229,15 +234,15 @@ class Copy:
 
     def sum_of(self):
         """A sum of all that a check stands on: the kit, and the files of the crate and of those below it."""
-        sum = hashlib.sha256(subprocess.run(["rt", "version"], stdout=subprocess.PIPE, check=True).stdout)
+        whole = hashlib.sha256(subprocess.run(["rt", "version"], stdout=subprocess.PIPE, check=True).stdout)
         lines = [line.partition("#")[0] for line in (ROOT / "crates.txt").read_text(encoding="utf-8").splitlines()]
         below = {line.partition(":")[0].split()[0]: line for line in lines if ":" in line}
         names = [self.name]
         for name in names:
             names += [it for it in below[name].partition(":")[2].split() if it in below and it not in names]
         for name in sorted(names):
-            sum.update(repr((below[name], [files(self.top / "crates" / name, part) for part in PARTS])).encode())
-        return sum.hexdigest()
+            whole.update(repr((below[name], [files(self.top / "crates" / name, part) for part in PARTS])).encode())
+        return whole.hexdigest()
 
     def checked(self):
         ran = subprocess.run(["rt", "check", "--jobs", "1"], cwd=self.folder, stdin=subprocess.DEVNULL, stdout=subprocess.PIPE, stderr=subprocess.STDOUT, text=True, errors="replace")
@@ -245,10 +250,10 @@ class Copy:
 
     def log(self, path, edited):
         """What the check says of the crate with these texts, from the file in which an earlier run kept it, or anew."""
-        sum = hashlib.sha256(repr((self.sum, edited)).encode()).hexdigest()
+        stamp = hashlib.sha256(repr((self.sum, edited)).encode()).hexdigest()
         if path.is_file():
             known = path.read_text(encoding="utf-8").splitlines()
-            if known[:1] == [sum]:
+            if known[:1] == [stamp]:
                 return known[1:]
         if self.is_proved is None:
             self.is_proved = not self.checked()[0]
@@ -265,7 +270,7 @@ class Copy:
         shutil.rmtree(self.folder / "out/incremental", ignore_errors=True)
         shutil.copytree(self.kept, self.folder / "out/incremental", symlinks=True, copy_function=linked)
         path.parent.mkdir(parents=True, exist_ok=True)
-        path.write_text("\n".join([sum, *log]) + "\n", encoding="utf-8")
+        path.write_text("\n".join([stamp, *log]) + "\n", encoding="utf-8")
         return log
 
 
@@ -282,10 +287,10 @@ def complaints(copy, label):
     # What each answer alters, which is told by the changes made in their order.
     altered, texts = [], copy.texts
     for changes, _ in given:
-        next = made(texts, changes)
-        names = changed(*(items(copy.name, of_part(it, "src")) for it in (texts, next)))
-        altered.append(names + ["meaning"] * (of_part(texts, "specs", "proofs") != of_part(next, "specs", "proofs")))
-        texts = next
+        after = made(texts, changes)
+        names = changed(*(items(copy.name, of_part(it, "src")) for it in (texts, after)))
+        altered.append(names + ["meaning"] * (of_part(texts, "specs", "proofs") != of_part(after, "specs", "proofs")))
+        texts = after
     found = [faults[""]] if "" in faults else []
     count = 0
     for number, (changes, fact) in enumerate(given):
@@ -327,9 +332,10 @@ def named(page, edits, known):
 
 
 def of_crate(crate, labels):
-    with tempfile.TemporaryDirectory(prefix="check-edits-") as room:
-        copy = Copy(crate, room)
-        return [(label, *complaints(copy, label)) for label in labels]
+    copy = Copy(crate)
+    told = [(label, *complaints(copy, label)) for label in labels]
+    shutil.rmtree(copy.top, ignore_errors=True)
+    return told
 
 
 edits = {(path.parent.parent.name, path.stem) for path in ROOT.glob("crates/*/must-fail/*.edit")}
@@ -338,12 +344,16 @@ for path in ROOT.glob("crates/*/src/**/*.rt"):
     known.update(re.findall(r"\w+", path.read_text(encoding="utf-8")))
 in_page, faults = named(PAGE.read_text(encoding="utf-8"), edits, known)
 total = 0
+LOGS.mkdir(parents=True, exist_ok=True)
+turn = (LOGS / "lock").open("w")
+fcntl.flock(turn, fcntl.LOCK_EX)
 crates = sorted({crate for crate, _ in edits} & {*(sys.argv[1:] or {crate for crate, _ in edits})})
 with concurrent.futures.ThreadPoolExecutor(2) as pool:
     for crate, told in zip(crates, pool.map(lambda crate: of_crate(crate, sorted(label for name, label in edits if name == crate)), crates)):
         for label, found, count in told:
             total += count
             faults += [f"{crate}/must-fail/{label}.edit: {fault}" for fault in found]
+shutil.rmtree(COPIES, ignore_errors=True)
 faults += [f"{crate}/must-fail/{label}.edit: docs/contracts.md does not name it" for crate, label in sorted(edits - in_page)]
 for fault in faults:
     print(fault)
