@@ -2,7 +2,7 @@
 """Draws docs/drift.svg: how far the mean Sun, Moon and Moon's apogee are from the older books' over eleven centuries,
 from what the program `drift` prints for single days.
 
-  python3 docs/make_drift_svg.py    after `rt check drift`
+  python3 docs/make_drift_svg.py    after `./build drift`
 
 Five days of each cycle of 4016 are asked for, its first and its last among them, since a drift leaps where a cycle
 turns. The years below come from the program too: it names a date's day."""

@@ -2,7 +2,7 @@
 """Draws docs/equations.svg, the equations of the Sun and the Moon, from what the host's calls hand back: a dot for each
 day of the first year, and the two of day 33649.
 
-  python3 docs/make_equations_svg.py    after `rt staticlib host`
+  python3 docs/make_equations_svg.py    after `./build host`
 
 The drawing reckons no longitude and no equation: an anomaly is a difference of two longitudes that were handed back,
 and so is an equation."""

@@ -1,7 +1,7 @@
 #!/usr/bin/env python3
 """Draws docs/lunar-months.svg: the month starts of a year in both editions, from what the program `lunar_month` prints.
 
-  python3 docs/make_lunar_months_svg.py    after `rt check lunar_month`
+  python3 docs/make_lunar_months_svg.py    after `./build lunar_month`
 
 The year is one in which two months start a day apart. From its last day on the program is asked for the latest month
 start, then for that of the day before it, and so back to the year's first day."""

@@ -22,7 +22,7 @@ PRINTS = "dated remarks sheet month_sheet almanac_sheet plate messages drift_she
 LANES = [
     ("the reader", "which days, and why not that one", "find why"),
     ("the operator", "a planet table, from C", "host"),
-    ("the almanac desk", "a day, and thirty at one go", "day_sheet month"),
+    ("the almanac desk", "a day, and thirty at one go", "day_sheet month records_c"),
     ("the server", "almanac files, and read back", "almanac_write almanac_read"),
     ("calendar printers", "when the Sun enters a sign", "signs"),
     ("who leafs", "the lunar month of a day", "lunar_month"),
@@ -40,7 +40,7 @@ COLOURS = {"reads": "#cfe0ee", "reckons": "#f6e3b0", "prints": "#d3e6cd", "under
 def crates():
     """Each crate of crates.txt, in its order."""
     lines = (ROOT / "crates.txt").read_text(encoding="utf-8").splitlines()
-    return [line.split(":")[0] for line in lines if line and not line.startswith("#")]
+    return [line.split(":")[0].split()[0] for line in lines if line and not line.startswith("#")]
 
 
 def calls(names):

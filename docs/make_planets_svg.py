@@ -2,7 +2,7 @@
 """Draws docs/planets.svg: how far each true planet is from its mean place, round the circle of its first anomaly, from
 what the host's calls hand back for all days.
 
-  python3 docs/make_planets_svg.py    after `rt staticlib host`
+  python3 docs/make_planets_svg.py    after `./build host`
 
 The drawing reckons no correction: for each degree of the anomaly it has the least and the largest difference of two
 places that were handed back. Between the two lies what the manda correction does; their bends at every 15 degrees are

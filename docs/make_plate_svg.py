@@ -1,7 +1,7 @@
 #!/usr/bin/env python3
 """Draws docs/plate.svg, the plate of one day as the engravers cut it, from what the program `engraving` prints.
 
-  python3 docs/make_plate_svg.py    after `rt check engraving`"""
+  python3 docs/make_plate_svg.py    after `./build engraving`"""
 import pathlib
 import subprocess
 
