@@ -340,8 +340,9 @@ def of_crate(crate, labels):
 
 edits = {(path.parent.parent.name, path.stem) for path in ROOT.glob("crates/*/must-fail/*.edit")}
 known = {path.name for path in (ROOT / "crates").iterdir()}
-for path in ROOT.glob("crates/*/src/**/*.rt"):
-    known.update(re.findall(r"\w+", path.read_text(encoding="utf-8")))
+for pattern in ("src/**/*.rt", "specs/**/*.antt", "proofs/**/*.antt"):
+    for path in ROOT.glob(f"crates/*/{pattern}"):
+        known.update(re.findall(r"\w+", path.read_text(encoding="utf-8")))
 in_page, faults = named(PAGE.read_text(encoding="utf-8"), edits, known)
 total = 0
 LOGS.mkdir(parents=True, exist_ok=True)
