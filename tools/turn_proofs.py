@@ -1,6 +1,11 @@
 #!/usr/bin/env python3
-"""Turn crates/NAME/proofs/**/Proof.antt of the tie form to Invariants.antt and Answers.antt, with names.json.
-usage: turn.py REPO NAMESDIR CRATE.."""
+"""Turns crates/NAME/proofs/**/Proof.antt of the older form to Invariants.antt and Answers.antt.
+
+usage: turn_proofs.py REPO NAMES CRATE..
+
+NAMES holds what `rt names NAMES` lists, run at the top of REPO: each goal's and each step's old name and new name.
+Answers that the check finds by itself are left out. What cannot be turned is said, and is left to be written by
+hand."""
 import json, os, re, sys, glob
 
 repo, namesdir = sys.argv[1:3]
