@@ -4,10 +4,9 @@
 #![tactic(auto)]
 
 use days::{Day, NumberAnswer};
+use longitudes::{Body, MeanLongitude};
 
 const STDOUT_FILENO: i32 = 1;
-
-use longitudes::{Body, MeanLongitude};
 
 const COUNT: usize = 24;
 

@@ -4,13 +4,12 @@
 #![tactic(auto)]
 
 use days::{Day, refusal};
-
-const STDOUT_FILENO: i32 = 1;
-
 use longitudes::Body;
 use panchanga::FIRST_EDITION;
 use query::{Arc, Asked, BodyArcs, Query, Weekdays};
 use search::Examined;
+
+const STDOUT_FILENO: i32 = 1;
 
 // Days 0 to 729, the Sun's arc from 0, width 3600.
 fn worked() -> Query {

@@ -3,9 +3,9 @@
 
 ghost use Rattle.std.specs.Prelude.{◌≤◌, length};
 
-const STDOUT_FILENO: i32 = 1;
-
 use text::Line;
+
+const STDOUT_FILENO: i32 = 1;
 
 fn write_first(bytes: &[u8; Line::CAPACITY], len: usize) {
     let all: &[u8] = bytes;
