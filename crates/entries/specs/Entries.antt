@@ -1,7 +1,7 @@
 -- A list of days as bytes: four a day, low byte first. A tail under four bytes is no entry (paper 01: no place of the
 -- lent list).
 -- Assumes nothing.
-use Rattle.std.specs.Prelude.{cond, List, [], ◌∷◌, ◌++◌, ℕ, ◌+◌, ◌*◌, ◌/◌, ◌%◌, ltb, length, get_or, take, drop}
+use Rattle.std.specs.Prelude.{cond, List, [], ◌∷◌, ◌++◌, ℕ, ◌+◌, ◌*◌, ◌/◌, ◌%◌, leb, ltb, length, get_or, take, drop}
 use Rattle.days.specs.Refusals.{out_of_range}
 use Rattle.days.specs.Days.{the_number, no_number}
 use Rattle.days.specs.declared.NumberAnswer.{NumberAnswer}
@@ -30,6 +30,10 @@ with_entries_from list k (d ∷ ds) = with_entries_from (with_entry list k d) (k
 -- a list with the days' entries at its front, and behind them what was there
 abbrev pub with_entries : List ℕ → List ℕ → List ℕ
 with_entries days list = entries days ++ drop (4 * length days) list
+
+-- how many bytes are copied to the front of others: all, or none where there is no room for all
+unfoldable pub copied_count : List ℕ → List ℕ → ℕ
+copied_count bytes others = cond (leb (length bytes) (length others)) (length bytes) 0
 
 -- the day of entry k's bytes
 unfoldable pub entry_day : List ℕ → ℕ → ℕ

@@ -1,8 +1,8 @@
 // A list of days as bytes: four a day, low byte first. A tail under four bytes is no entry.
 #![tactic(auto)]
 
-ghost use Rattle.std.specs.Prelude.{◌≡◌, ◌++◌, ◌<◌, ◌≤◌, drop, length, take};
-ghost use Rattle.entries.specs.Entries.{with_entry, entry_day, entry_at};
+ghost use Rattle.std.specs.Prelude.{◌≡◌, ◌++◌, ◌<◌, drop, take};
+ghost use Rattle.entries.specs.Entries.{with_entry, entry_day, entry_at, copied_count};
 
 use days::NumberAnswer;
 
@@ -52,13 +52,15 @@ pub fn put_entry(list: &mut [u8], index: usize, day: u32)
     }
 }
 
-// Copies bytes to the front of others, and hands back how many.
+// Copies bytes to the front of others, and hands back how many; others that have no room for all stay as they were.
 pub fn copy(from: &[u8], to: &mut [u8]) -> usize
-    requires { length from.now ≤ length to.old }
-    ensures value { result ≡ length from.now }
-    ensures to_after { to.new ≡ take (length from.now) from.now ++ drop (length from.now) to.old }
+    ensures value { result ≡ copied_count from.now to.old }
+    ensures to_after { to.new ≡ take (copied_count from.now to.old) from.now ++ drop (copied_count from.now to.old) to.old }
 {
     let count = from.len();
+    if to.len() < count {
+        return 0;
+    }
     to[..count].copy_from_slice(from);
     count
 }

@@ -1,7 +1,7 @@
 // A torn almanac page as a person writes it down: the text of a page to a query.
 #![tactic(auto)]
 
-ghost use Rattle.std.specs.Prelude.{◌≡◌, ◌<◌, ◌≤◌};
+ghost use Rattle.std.specs.Prelude.{◌≡◌, ◌<◌};
 ghost use Rattle.words.specs.Words.{place_in};
 ghost use Rattle.page.specs.Names.{keywords};
 ghost use Rattle.page.specs.Page.{keyword_count, is_element, element_of, only_span, no_values, with_condition, rank_of, ranks_before, first_refusal, first_value, second_value, numbers_read, print_of, with_print, print_read, has_arcs, arc_read, sign_arc, width_to, to_arc, is_to, named_arc, arc_in, arc_words, second_arc_in, arcs_read, arcs_in, most_values, values_read, other_values, malformed_line, refused_as, condition_read, line_read, first_fault, with_fault, with_line, empty_page, page_answer, page_read};

@@ -142,7 +142,7 @@ pub fn record_of(edition: u32, number: u32) -> RecordAnswer
     }
 }
 
-// Fills each record by its day; or refuses, and touches none. (A C call too, of an archive of this crate alone.)
+// Fills each record by its day; or refuses, and touches none. (For C it is in the archive of `records_c`.)
 #[unsafe(no_mangle)]
 pub extern "C" fn fill_records(edition: u32, records: &mut [DayRecord]) -> u32
     ensures { (result ≡ fill_refusal edition records.old) × (records.new ≡ filled_after edition records.old) }

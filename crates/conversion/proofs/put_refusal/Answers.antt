@@ -1,10 +1,11 @@
 -- `put_refusal` meets its contract: the line is copied to the front. Assumes nothing.
 use Prim.Native.Nat.{ℕ}
-use mathlib.Core.Path.{◌≡◌, sym}
+use mathlib.Core.Path.{◌≡◌, sym, ◌∙◌}
 use mathlib.Core.List.{List}
 use native.Mathlib.Omega.{arith}
 use lib.ListN.{length-take, take}
 use lib.Seq.{length-take-le}
+use Rattle.entries.proofs.Copying.{all_copied}
 use Rattle.text.specs.declared.Line.{Line}
 use Rattle.text.specs.Lines.{contents, Holds}
 use Rattle.text.proofs.Holding.{holds-within, holds-room}
@@ -21,8 +22,10 @@ slice_bounds-bytes-end c = holds-within c.refusal_line-line.ensures
 pub slice_bounds-copy-end : goal.slice_bounds-copy-end
 slice_bounds-copy-end c = sym (length-take-le _ _ (holds-within c.refusal_line-line.ensures))
 
-pub copy-put-requires : goal.copy-put-requires
-copy-put-requires c = let line = c.refusal_line-line.result in let room = holds-room c.refusal_line-line.ensures in omega (arith, length-take line.len line.bytes, room)
-
 pub returns : goal.returns
-returns c = let p = copied _ _ _ _ (whole c.refusal_line-line.ensures) c.copy-put.ensures.value c.copy-put.ensures.to_after in record { value = rw p.0; output_after = p.1 }
+returns c =
+    let line = c.refusal_line-line.result in
+    let room = holds-room c.refusal_line-line.ensures in
+    let all = all_copied (take line.len line.bytes) c.args.output.now (omega (arith, length-take line.len line.bytes, room)) in
+    let p = copied _ _ _ _ (whole c.refusal_line-line.ensures) (c.copy-put.ensures.value ∙ all) (rw all at c.copy-put.ensures.to_after) in
+    record { value = rw p.0; output_after = p.1 }

@@ -3,15 +3,17 @@
 use Prim.Native.Nat.{◌*◌}
 use mathlib.Core.Path.{◌≡◌, refl, sym, ap, ◌∙◌}
 use native.Mathlib.Omega.{arith}
-use lib.ListN.{length}
+use lib.ListN.{length, take}
 use lib.Seq.{length-take-le}
 use Rattle.query.specs.Query.{refusal_of}
 use Rattle.query.proofs.Accepted.{accepted-by}
 use Rattle.search.proofs.Answers.{refused, fits-span, too_many, all-written}
 use Rattle.search.proofs.Passes.{scannable-first, scannable-rest}
+use Rattle.entries.specs.Entries.{copied_count}
+use Rattle.entries.proofs.Copying.{all_copied}
 use Rattle.entries.proofs.Putting.{put_all, put-length, copied-length, copied_all, copied-and-put}
 use Rattle.search.proofs.search.Goals as goal
-use Rattle.search.proofs.search.Goals.{Else-refusal-ne-NONE}
+use Rattle.search.proofs.search.Goals.{Else-refusal-ne-NONE, Else-needed-le-KEPT}
 
 accepted : (c : Else-refusal-ne-NONE) → refusal_of c.args.query ≡ 0
 accepted c = sym c.refusal-refusal.ensures ∙ c.if-refusal-ne-NONE.false
@@ -44,25 +46,32 @@ returns-then-capacity-needed c =
 pub slice_bounds-copy-end : goal.slice_bounds-copy-end
 slice_bounds-copy-end c = sym (length-take-le _ _ (omega (arith, ap length c.scan-tally-2.ensures.output_after ∙ put-length _ _ _)))
 
-pub copy-requires : goal.copy-requires
-copy-requires c = omega (arith, length-take-le (4 * c.scan-tally-2.result.length) c.scan-tally-2.new.output (omega (arith, ap length c.scan-tally-2.ensures.output_after ∙ put-length _ _ _)), c.if-capacity-needed.false)
-
 pub returns-then-needed-le-KEPT : goal.returns-then-needed-le-KEPT
 returns-then-needed-le-KEPT c =
     let t = c.scan-tally-2.ensures.tallied in
+    let long = length-take-le (4 * c.scan-tally-2.result.length) c.scan-tally-2.new.output (omega (arith, ap length c.scan-tally-2.ensures.output_after ∙ put-length _ _ _)) in
+    let all = all_copied (take (4 * c.scan-tally-2.result.length) c.scan-tally-2.new.output) c.args.list.now (omega (arith, long, c.if-capacity-needed.false)) in
     rw c.counted-then-needed-le-KEPT.ensures
     (all-written _ _ _ _ (accepted (goal.at.returns-then-needed-le-KEPT c).Else-refusal-ne-NONE) t.count (t.visits refl) _ c.if-capacity-needed.false
-    (copied_all _ _ _ _ _ c.scan-tally-2.ensures.output_after (omega (arith, t.count, c.if-needed-le-KEPT.true)) (rw t.count at c.copy.ensures.to_after)))
+    (copied_all _ _ _ _ _ c.scan-tally-2.ensures.output_after (omega (arith, t.count, c.if-needed-le-KEPT.true)) (rw t.count at (rw all at c.copy.ensures.to_after))))
+
+-- the kept days fill their array, for which the list has room
+all_kept : (c : Else-needed-le-KEPT) → copied_count c.scan-tally-2.new.output c.args.list.now ≡ length c.scan-tally-2.new.output
+all_kept c =
+    let kept = ap length c.scan-tally-2.ensures.output_after ∙ put-length _ _ _ in
+    all_copied _ _ (omega (arith, kept, c.if-capacity-needed.false, c.if-needed-le-KEPT.false))
 
 pub write_rest-requires : goal.write_rest-requires
 write_rest-requires c =
     let kept = ap length c.scan-tally-2.ensures.output_after ∙ put-length _ _ _ in
+    let after = rw (all_kept (goal.at.write_rest-requires c).Else-needed-le-KEPT) at c.copy-2.ensures.to_after in
     scannable-rest _ _ _ _ _ (accepted (goal.at.write_rest-requires c).Else-refusal-ne-NONE) c.first_visit-start.ensures c.scan-tally-2.ensures.tallied (omega (arith, c.if-needed-le-KEPT.false))
-    (omega (arith, copied-length c.scan-tally-2.new.output c.args.list.now _ c.copy-2.ensures.to_after (omega (arith, kept, c.if-capacity-needed.false, c.if-needed-le-KEPT.false)), c.if-capacity-needed.false, c.if-needed-le-KEPT.false))
+    (omega (arith, copied-length c.scan-tally-2.new.output c.args.list.now _ after (omega (arith, kept, c.if-capacity-needed.false, c.if-needed-le-KEPT.false)), c.if-capacity-needed.false, c.if-needed-le-KEPT.false))
 
 pub returns : goal.returns
 returns c =
     let t = c.scan-tally-2.ensures.tallied in
+    let after = rw (all_kept (goal.at.returns c).Else-needed-le-KEPT) at c.copy-2.ensures.to_after in
     rw c.write_rest.ensures.value
     (all-written _ _ _ _ (accepted (goal.at.returns c).Else-refusal-ne-NONE) t.count (t.visits refl) _ c.if-capacity-needed.false
-    (copied-and-put _ _ _ _ _ _ 176 c.scan-tally-2.ensures.output_after refl (omega (arith, t.count, c.if-needed-le-KEPT.false)) (omega (arith, t.count, c.if-capacity-needed.false)) c.copy-2.ensures.to_after c.write_rest.ensures.list_after))
+    (copied-and-put _ _ _ _ _ _ 176 c.scan-tally-2.ensures.output_after refl (omega (arith, t.count, c.if-needed-le-KEPT.false)) (omega (arith, t.count, c.if-capacity-needed.false)) after c.write_rest.ensures.list_after))
