@@ -12,7 +12,7 @@ use Rattle.days.specs.declared.NumberAnswer.{NumberAnswer}
 use Rattle.days.specs.Days.{last_day}
 use Rattle.entries.specs.Entries.{capacity, entry_at, copied_count}
 use Rattle.entries.specs.Listed.{listed_from, EachDay}
-use Rattle.entries.proofs.Copying.{all_copied}
+use Rattle.entries.proofs.Copying.{copied-with-room}
 use Rattle.entries.proofs.Listed.{no-entry}
 use Rattle.text.proofs.Lending.{lent-rest}
 use Rattle.date_lines.specs.declared.Kind.{Kind}
@@ -47,16 +47,16 @@ pub room_for : (text made line : List ℕ) (at : ℕ) → made ≡ line → at +
 room_for text made line at e h = rw (lent-rest text at) (simp length-drop (omega (arith, ap length e)))
 
 -- how many bytes of it are copied, and where they end
-pub all_made : (text made line : List ℕ) (at : ℕ) → made ≡ line → at + length line ≤ length text → copied_count made (take (length text - at) (drop at text)) ≡ length made
-all_made text made line at e h = all_copied _ _ (room_for text made line at e h)
+pub made-copied : (text made line : List ℕ) (at : ℕ) → made ≡ line → at + length line ≤ length text → copied_count made (take (length text - at) (drop at text)) ≡ length made
+made-copied text made line at e h = copied-with-room _ _ (room_for text made line at e h)
 
-pub made_within :
+pub made-within :
     (text made line : List ℕ) (at : ℕ) {n : ℕ} →
     made ≡ line →
     at + length line ≤ length text →
     n ≡ copied_count made (take (length text - at) (drop at text)) →
     at + n ≤ length text
-made_within text made line at e h c = omega (arith, c ∙ all_made text made line at e h, ap length e)
+made-within text made line at e h c = omega (arith, c ∙ made-copied text made line at e h, ap length e)
 
 pub put-made :
     (text made line part : List ℕ) (at : ℕ) {n : ℕ} →

@@ -6,6 +6,6 @@ use borrow.Author.Tests.{le-leb}
 use lib.ListN.{length}
 use Rattle.entries.specs.Entries.{copied_count}
 
-pub all_copied : (bytes others : List ℕ) → length bytes ≤ length others → copied_count bytes others ≡ length bytes
+pub copied-with-room : (bytes others : List ℕ) → length bytes ≤ length others → copied_count bytes others ≡ length bytes
 unfolding copied_count
-all_copied bytes others h = rw (le-leb _ _ h)
+copied-with-room bytes others h = rw (le-leb _ _ h)

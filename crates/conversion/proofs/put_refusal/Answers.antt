@@ -5,7 +5,7 @@ use mathlib.Core.List.{List}
 use native.Mathlib.Omega.{arith}
 use lib.ListN.{length-take, take}
 use lib.Seq.{length-take-le}
-use Rattle.entries.proofs.Copying.{all_copied}
+use Rattle.entries.proofs.Copying.{copied-with-room}
 use Rattle.text.specs.declared.Line.{Line}
 use Rattle.text.specs.Lines.{contents, Holds}
 use Rattle.text.proofs.Holding.{holds-within, holds-room}
@@ -26,6 +26,6 @@ pub returns : goal.returns
 returns c =
     let line = c.refusal_line-line.result in
     let room = holds-room c.refusal_line-line.ensures in
-    let all = all_copied (take line.len line.bytes) c.args.output.now (omega (arith, length-take line.len line.bytes, room)) in
+    let all = copied-with-room (take line.len line.bytes) c.args.output.now (omega (arith, length-take line.len line.bytes, room)) in
     let p = copied _ _ _ _ (whole c.refusal_line-line.ensures) (c.copy-put.ensures.value ∙ all) (rw all at c.copy-put.ensures.to_after) in
     record { value = rw p.0; output_after = p.1 }

@@ -5,7 +5,7 @@ use mathlib.Core.Path.{sym, ◌∙◌}
 use native.Mathlib.Omega.{arith}
 use lib.ListN.{length, replicate, take, length-replicate}
 use lib.Seq.{length-take-le}
-use Rattle.entries.proofs.Copying.{all_copied}
+use Rattle.entries.proofs.Copying.{copied-with-room}
 use Rattle.date_lines.proofs.Reading.{front-short, not-read, no_room, all-copied, all-put}
 use Rattle.date_lines.proofs.lines_to_list.Goals as goal
 
@@ -20,7 +20,7 @@ slice_bounds-copy-end c = sym (length-take-le _ _ (omega arith))
 
 pub returns-then-all : goal.returns-then-all
 returns-then-all c =
-    let all = all_copied (take (4 * c.read_lines-all.result.length) c.read_lines-all.new.kept) c.args.list.now (front-short (4 * c.read_lines-all.result.length) _ (length c.args.list.now) (omega (arith, c.if-list-all.false))) in
+    let all = copied-with-room (take (4 * c.read_lines-all.result.length) c.read_lines-all.new.kept) c.args.list.now (front-short (4 * c.read_lines-all.result.length) _ (length c.args.list.now) (omega (arith, c.if-list-all.false))) in
     let both = all-copied _ _ _ _ _ c.read_lines-all.ensures.value c.if-all-ne-NONE.false c.if-list-all.false (replicate {A = ℕ} 16384 0) _ _ (c.read_lines-all.ensures.kept_after c.if-all-ne-NONE.false) (omega (arith, length-replicate {A = ℕ} 16384 0, c.if-all.true)) (rw all at c.copy.ensures.to_after) in record { value = both.0; list_after = both.1 }
 
 pub returns : goal.returns

@@ -10,7 +10,7 @@ use Rattle.query.proofs.Accepted.{accepted-by}
 use Rattle.search.proofs.Answers.{refused, fits-span, too_many, all-written}
 use Rattle.search.proofs.Passes.{scannable-first, scannable-rest}
 use Rattle.entries.specs.Entries.{copied_count}
-use Rattle.entries.proofs.Copying.{all_copied}
+use Rattle.entries.proofs.Copying.{copied-with-room}
 use Rattle.entries.proofs.Putting.{put_all, put-length, copied-length, copied_all, copied-and-put}
 use Rattle.search.proofs.search.Goals as goal
 use Rattle.search.proofs.search.Goals.{Else-refusal-ne-NONE, Else-needed-le-KEPT}
@@ -50,28 +50,28 @@ pub returns-then-needed-le-KEPT : goal.returns-then-needed-le-KEPT
 returns-then-needed-le-KEPT c =
     let t = c.scan-tally-2.ensures.tallied in
     let long = length-take-le (4 * c.scan-tally-2.result.length) c.scan-tally-2.new.output (omega (arith, ap length c.scan-tally-2.ensures.output_after ∙ put-length _ _ _)) in
-    let all = all_copied (take (4 * c.scan-tally-2.result.length) c.scan-tally-2.new.output) c.args.list.now (omega (arith, long, c.if-capacity-needed.false)) in
+    let all = copied-with-room (take (4 * c.scan-tally-2.result.length) c.scan-tally-2.new.output) c.args.list.now (omega (arith, long, c.if-capacity-needed.false)) in
     rw c.counted-then-needed-le-KEPT.ensures
     (all-written _ _ _ _ (accepted (goal.at.returns-then-needed-le-KEPT c).Else-refusal-ne-NONE) t.count (t.visits refl) _ c.if-capacity-needed.false
     (copied_all _ _ _ _ _ c.scan-tally-2.ensures.output_after (omega (arith, t.count, c.if-needed-le-KEPT.true)) (rw t.count at (rw all at c.copy.ensures.to_after))))
 
 -- the kept days fill their array, for which the list has room
-all_kept : (c : Else-needed-le-KEPT) → copied_count c.scan-tally-2.new.output c.args.list.now ≡ length c.scan-tally-2.new.output
-all_kept c =
+kept-copied : (c : Else-needed-le-KEPT) → copied_count c.scan-tally-2.new.output c.args.list.now ≡ length c.scan-tally-2.new.output
+kept-copied c =
     let kept = ap length c.scan-tally-2.ensures.output_after ∙ put-length _ _ _ in
-    all_copied _ _ (omega (arith, kept, c.if-capacity-needed.false, c.if-needed-le-KEPT.false))
+    copied-with-room _ _ (omega (arith, kept, c.if-capacity-needed.false, c.if-needed-le-KEPT.false))
 
 pub write_rest-requires : goal.write_rest-requires
 write_rest-requires c =
     let kept = ap length c.scan-tally-2.ensures.output_after ∙ put-length _ _ _ in
-    let after = rw (all_kept (goal.at.write_rest-requires c).Else-needed-le-KEPT) at c.copy-2.ensures.to_after in
+    let after = rw (kept-copied (goal.at.write_rest-requires c).Else-needed-le-KEPT) at c.copy-2.ensures.to_after in
     scannable-rest _ _ _ _ _ (accepted (goal.at.write_rest-requires c).Else-refusal-ne-NONE) c.first_visit-start.ensures c.scan-tally-2.ensures.tallied (omega (arith, c.if-needed-le-KEPT.false))
     (omega (arith, copied-length c.scan-tally-2.new.output c.args.list.now _ after (omega (arith, kept, c.if-capacity-needed.false, c.if-needed-le-KEPT.false)), c.if-capacity-needed.false, c.if-needed-le-KEPT.false))
 
 pub returns : goal.returns
 returns c =
     let t = c.scan-tally-2.ensures.tallied in
-    let after = rw (all_kept (goal.at.returns c).Else-needed-le-KEPT) at c.copy-2.ensures.to_after in
+    let after = rw (kept-copied (goal.at.returns c).Else-needed-le-KEPT) at c.copy-2.ensures.to_after in
     rw c.write_rest.ensures.value
     (all-written _ _ _ _ (accepted (goal.at.returns c).Else-refusal-ne-NONE) t.count (t.visits refl) _ c.if-capacity-needed.false
     (copied-and-put _ _ _ _ _ _ 176 c.scan-tally-2.ensures.output_after refl (omega (arith, t.count, c.if-needed-le-KEPT.false)) (omega (arith, t.count, c.if-capacity-needed.false)) after c.write_rest.ensures.list_after))
