@@ -9,7 +9,7 @@ no contract can say. It takes the sources of `search` and of every crate below i
 - `scan` calls the look, the step to the next visit, the list's put and what tells which conditions are asked for, each
   once, and nothing else but the length of its output; it hands the query to the look and to that, and does nothing else
   with it;
-- outside the look a query is handed on whole, asked for its refusal or for its first and last day, and that is all
+- outside the look a query is handed on whole, asked for its refusal, its edition or its first and last day, no more
   (`over_day` copies it for a span of one day, and what tells which conditions are asked for reads which are given);
 - the pair of a day is made once, in the look, of the day of the visit that it is given.
 
@@ -25,8 +25,9 @@ ROOT = pathlib.Path(__file__).resolve().parent.parent
 LOOK = "search::examine_day"
 SCAN = {LOOK: 1, "search::more_asked": 1, "search::next_visit": 1, "entries::put_entry": 1, ".len": 1}
 # What a query's refusal is made of: ranges, which no day enters.
-RANGES = {"query::" + name for name in ("Query::refusal", "conditions_in_range", "elements_in_range", "arcs_in_range", "true_arcs_in_range", "Asked::in_range", "Weekdays::in_range", "Arc::in_range", "BodyArcs::in_range")}
-RANGES |= {"panchanga::is_edition"}
+RANGES = {"query::" + name for name in ("Query::check", "conditions_in_range", "elements_in_range", "all_in_range", "Asked::in_range", "Weekdays::in_range", "Arc::in_range", "BodyArcs::in_range")}
+# A body's number is its place in the order, and reached because a refusal has a number too.
+RANGES |= {"panchanga::is_edition", "panchanga::edition_of", "longitudes::Body::number"}
 # What tells which conditions are asked for: it reads which are given, and no day enters it.
 ASKED = {"search::more_asked": r"query\.(?:true_)?arcs\b", "search::elements_given": r"query\.\w+\.given\b"}
 RANGES |= {"query::BodyArcs::given"}
@@ -41,9 +42,9 @@ WRONG = [
     ("scan looks twice", "search", "        let next = next_visit(visit, seen);\n", "        let again = examine_day(query, more, visit);\n        let next = next_visit(visit, again);\n"),
     ("a search reckons the Sun before it scans", "search", "    let mut none = [0u8; 0];\n", "    let mut none = [0u8; 0];\n    longitudes::mean_longitude(Body::Sun, Day::EPOCH);\n"),
     ("a search tests an arc by what the look tests it by", "search", "    let mut none = [0u8; 0];\n", "    let mut none = [0u8; 0];\n    nearer(query.arcs[0], 0);\n"),
-    ("the test of the ranges comes to a condition", "query", "    let true_arcs = query.true_arcs;\n    true_arcs_in_range(true_arcs)\n", "    let true_arcs = query.true_arcs;\n    others_met(query, Day::EPOCH);\n    true_arcs_in_range(true_arcs)\n"),
+    ("the test of the ranges comes to a condition", "query", "    let true_arcs = query.true_arcs;\n    all_in_range(&true_arcs)\n", "    let true_arcs = query.true_arcs;\n    others_met(query, Day::EPOCH);\n    all_in_range(&true_arcs)\n"),
     ("scan tests true arcs on a day that is not looked at", "search", "        let next = next_visit(visit, seen);\n", "        let next = next_visit(visit, seen);\n        query::true_arcs_have(1, TrueBody::Sun, BodyArcs::NONE, Day::EPOCH);\n"),
-    ("what is asked comes to a true longitude", "search", "    let places = given_places(true_arcs);\n", "    let places = given_places(true_arcs);\n    query::true_longitude(query.edition, TrueBody::Moon, Day::EPOCH);\n"),
+    ("what is asked comes to a true longitude", "search", "    match given_places(true_arcs) {\n", "    query::true_longitude(query.edition, TrueBody::Moon, Day::EPOCH);\n    match given_places(true_arcs) {\n"),
     ("the look reckons the next day", "search", "    let day = visit.day;\n", "    let day = visit.day + 1;\n"),
 ]
 
@@ -141,14 +142,14 @@ def complaints(texts):
         body = known[name][1]
         used = body if name != COPIES else re.sub(r"let (\w+) = query\.\1;|edition: query\.edition", "", body)
         used = re.sub(ASKED[name], "", used) if name in ASKED else used
-        used = re.sub(r"\bquery(?:\.(?:first|last)\b|\.refusal\(\)|(?=[,)]))|\bsearch::\w+|\bquery::\w+", "", used)
+        used = re.sub(r"\bquery(?:\.(?:first|last)\b|\.check\(\)|\.edition(?=\) \{)|(?=[,)]))|\bsearch::\w+|\bquery::\w+", "", used)
         if re.search(r"\bquery\b|\balone\.|\b\w+\.(?:weekdays|tithi|nakshatra|yoga|karana|arcs|true_arcs)\b", used):
             found.append(f"{name} does more with a query than hand it on")
     for crate, most in (("search", 1), ("query", 0)):
         text = re.sub(r"//.*", "", texts[crate])
         if len(re.findall(r"Day::from_number\(", text)) != most or re.search(r"Day::(at|from_pair)\(|\bDay \{|\.next\(", text):
             found.append(f"{crate} makes the pair of a day elsewhere than in the look")
-    if "    let day = visit.day;\n    let there = Day::from_number(day);\n" not in known[LOOK][1]:
+    if "    let day = visit.day;\n    let pair = Day::from_number(day).unwrap();\n" not in known[LOOK][1]:
         found.append("the look makes the pair of another day than its visit's")
     return found
 

@@ -4,18 +4,21 @@
 -- Assumes nothing.
 use Prim.Native.Nat.{ℕ, zero, suc, ◌+◌, ◌-◌, ◌*◌, ◌/◌, ◌%◌, ◌≤◌, ◌<◌}
 use mathlib.Core.Path.{◌≡◌, refl, ap, ap₂, sym, ◌∙◌}
-use mathlib.Core.Bool.{Bool, true, false, cond, true≢false}
+use mathlib.Core.Bool.{true≢false}
 use mathlib.Core.List.{List, [], ◌∷◌, ◌++◌}
 use native.Mathlib.Omega.{arith}
 use native.Mathlib.Decide.{dec_le}
-use lib.Dec.{eqb}
 use lib.ListN.{length, get_or, take, drop, set, take-append-drop, length-take, length-drop, length-set, get_or-append, get_or-eq_default}
 use lib.Seq.{take_at, drop_at, get_or-take, get_or-drop, take-set-lt, drop-set-add, length-take-le}
-use borrow.Author.Tests.{le-leb, eq-eqb, eqb-true, eqb-false}
+use borrow.Author.Tests.{le-leb, eq-eqb}
 use Rattle.entries.specs.Entries.{entry_day}
 use Rattle.blocks.specs.Blocks.{days_in, block_of, block_refusal, checksum_holds}
 use Rattle.blocks.proofs.Laying.{block-long}
 use Rattle.blocks.proofs.Laws.{Sound, sound, Bytes, held_first, only-block, put-sound, change-found}
+use Rattle.std.specs.Prelude.{Result, Ok, Err}
+use Rattle.days.specs.declared.refusal.Refusal.{Refusal}
+use Rattle.days.specs.Refusals.{and_then}
+use Rattle.almanac.specs.declared.Reading.{Reading}
 use Rattle.almanac.specs.Files.{blocks_for, blocks_from, almanac_of}
 use Rattle.almanac.specs.Reading.{the_days, count_in, first_in, length_holds, first_bad, days_unless, reading_of}
 use Rattle.almanac.proofs.Writing.{blocks-length}
@@ -36,14 +39,14 @@ unfolding days_in
 some_in n h = omega arith
 
 module _ (first count : ℕ) (some : 1 ≤ count) (fits : first + count ≤ 401600) where
-  none-bad : (i k : ℕ) → i + k ≤ blocks_for count → first_bad first count i k (blocks_from first count i k) ≡ 0
+  none-bad : (i k : ℕ) → i + k ≤ blocks_for count → first_bad first count i k (blocks_from first count i k) ≡ Ok tt
   unfolding first_bad blocks_from
   none-bad i zero h = refl
   none-bad i (suc k) h =
       let here : take 512 (block_of first count i ++ blocks_from first count (suc i) k) ≡ block_of first count i = take_at (block_of first count i) (blocks_from first count (suc i) k) 512 (block-long first count i) in
       let rest : drop 512 (block_of first count i ++ blocks_from first count (suc i) k) ≡ blocks_from first count (suc i) k = drop_at (block_of first count i) (blocks_from first count (suc i) k) 512 (block-long first count i) in
-      let good : block_refusal first count i (take 512 (block_of first count i ++ blocks_from first count (suc i) k)) ≡ 0 = ap (block_refusal first count i) here ∙ put-sound first count i fits (omega arith) in
-      ap₂ (λ (r : ℕ) (l : List ℕ). cond (eqb r 0) (first_bad first count (suc i) k l) r) good rest ∙ none-bad (suc i) k (omega arith)
+      let good : block_refusal first count i (take 512 (block_of first count i ++ blocks_from first count (suc i) k)) ≡ Ok tt = ap (block_refusal first count i) here ∙ put-sound first count i fits (omega arith) in
+      ap₂ (λ (r : Result (Unit {0}) Refusal) (l : List ℕ). and_then r (λ _. first_bad first count (suc i) k l)) good rest ∙ none-bad (suc i) k (omega arith)
 
   first-sound : Sound first count 0 (block_of first count 0)
   first-sound = sound first count 0 (block_of first count 0) (put-sound first count 0 fits (omega arith))
@@ -69,7 +72,7 @@ module _ (first count : ℕ) (some : 1 ≤ count) (fits : first + count ≤ 4016
       ∙ held_first (block_of first count 0) (first + 9 * 0) (days_in count 0) first-sound.held (some_in count some)
       ∙ omega arith
 
-  file-good : first_bad first count 0 (blocks_for count) (almanac_of first count) ≡ 0
+  file-good : first_bad first count 0 (blocks_for count) (almanac_of first count) ≡ Ok tt
   unfolding almanac_of
   file-good = none-bad 0 (blocks_for count) (omega arith)
 
@@ -96,32 +99,32 @@ bytes-front n f u i = go (dec_le (suc i) n)
 bytes-behind : (n : ℕ) (f : List ℕ) → Bytes f → Bytes (drop n f)
 bytes-behind n f u i = omega (arith, get_or-drop n f i 0, u (n + i))
 
-all-written : (first count i k : ℕ) (f : List ℕ) → Bytes f → length f ≡ 512 * k → first_bad first count i k f ≡ 0 → f ≡ blocks_from first count i k
+all-written : (first count i k : ℕ) (f : List ℕ) → Bytes f → length f ≡ 512 * k → first_bad first count i k f ≡ Ok tt → f ≡ blocks_from first count i k
 unfolding first_bad blocks_from
 all-written first count i zero [] u l e = refl
 all-written first count i zero (x ∷ f) u l e = absurd (omega arith)
-all-written first count i (suc k) f u l e = go (eqb (block_refusal first count i (take 512 f)) 0) refl e (all-written first count (suc i) k (drop 512 f) (bytes-behind 512 f u) (omega (arith, length-drop 512 f)))
+all-written first count i (suc k) f u l e = go (block_refusal first count i (take 512 f)) refl e (all-written first count (suc i) k (drop 512 f) (bytes-behind 512 f u) (omega (arith, length-drop 512 f)))
   where
     go :
-        (t : Bool) →
-        eqb (block_refusal first count i (take 512 f)) 0 ≡ t →
-        cond t (first_bad first count (suc i) k (drop 512 f)) (block_refusal first count i (take 512 f)) ≡ 0 →
-        (first_bad first count (suc i) k (drop 512 f) ≡ 0 → drop 512 f ≡ blocks_from first count (suc i) k) →
+        (t : Result (Unit {0}) Refusal) →
+        block_refusal first count i (take 512 f) ≡ t →
+        and_then t (λ _. first_bad first count (suc i) k (drop 512 f)) ≡ Ok tt →
+        (first_bad first count (suc i) k (drop 512 f) ≡ Ok tt → drop 512 f ≡ blocks_from first count (suc i) k) →
         f ≡ block_of first count i ++ blocks_from first count (suc i) k
-    go true t e deeper =
-        let s : Sound first count i (take 512 f) = sound first count i (take 512 f) (eqb-true _ _ t) in
+    go (Ok tt) t e deeper =
+        let s : Sound first count i (take 512 f) = sound first count i (take 512 f) t in
         sym (take-append-drop 512 f) ∙ ap₂ ◌++◌ (only-block first count i (take 512 f) (bytes-front 512 f u) (length-take-le 512 f (omega arith)) s) (deeper e)
-    go false t e deeper = absurd (eqb-false _ _ t e)
+    go (Err r) t e deeper = absurd cc
 
 -- NOTHING ELSE PASSES: a file that is read is the one that writing its days gives
-pub read-written : (f : List ℕ) → Bytes f → (reading_of f).refusal ≡ 0 → f ≡ almanac_of (first_in f) (count_in f)
+pub read-written : (f : List ℕ) {r : Reading} → Bytes f → Ok r ≡ reading_of f → f ≡ almanac_of (first_in f) (count_in f)
 unfolding almanac_of
 read-written f u e =
     let w : Whole f = whole f e in
     all-written (first_in f) (count_in f) 0 (blocks_for (count_in f)) f u w.length-is w.none-bad
 
 -- A CHANGED BYTE IS REFUSED, wherever it stands
-pub change-refused : (f : List ℕ) (p v : ℕ) → p < length f → (v ≡ get_or f p 0 → ⊥) → (reading_of f).refusal ≡ 0 → (reading_of (set f p v)).refusal ≡ 0 → ⊥
+pub change-refused : (f : List ℕ) (p v : ℕ) {r r' : Reading} → p < length f → (v ≡ get_or f p 0 → ⊥) → Ok r ≡ reading_of f → Ok r' ≡ reading_of (set f p v) → ⊥
 change-refused f p v h n e e' =
     let w : Whole f = whole f e in
     let w' : Whole (set f p v) = whole (set f p v) e' in

@@ -4,13 +4,17 @@
 use Prim.Native.Nat.{ℕ, zero, suc, ◌+◌, ◌-◌, ◌*◌, ◌≤◌, ◌<◌, min}
 use mathlib.Core.Path.{◌≡◌, refl, ap, ap₂, sym, ◌∙◌}
 use mathlib.Core.Bool.{Bool, true, false, cond, ◌&&◌}
-use mathlib.Core.List.{List}
+use mathlib.Core.List.{List, ◌++◌}
 use native.Mathlib.Omega.{arith}
 use native.Mathlib.Decide.{dec_le}
 use lib.Dec.{ltb, eqb}
-use lib.ListN.{length, take, drop, length-take, length-drop, drop_of_length-le}
-use lib.Seq.{get_or-take, length-take-le, take_all, drop-drop}
+use lib.ListN.{length, take, drop, length-append, length-take, length-drop, drop_of_length-le}
+use lib.Seq.{get_or-take, length-take-le, take_all, take_at, drop_at}
 use borrow.Author.Tests.{le-leb, lt-leb, lt-ltb, le-ltb, eq-eqb, ne_eqb, eqb-true, eqb-false}
+use Rattle.std.specs.Prelude.{Result, Ok, Err}
+use Rattle.days.specs.declared.refusal.Refusal.{Refusal}
+use Rattle.days.specs.declared.refusal.Refusal.TheVariants.{BadLength}
+use Rattle.days.specs.Refusals.{and_then}
 use Rattle.entries.specs.Entries.{entry_day}
 use Rattle.blocks.specs.Blocks.{block_refusal}
 use Rattle.almanac.specs.declared.Reader.{Reader}
@@ -27,7 +31,7 @@ eqb_same a b c d f g = go (eqb a b) refl
     go false e = sym (ne_eqb c d (λ k. eqb-false a b e (g k)))
 
 -- a broken state stays so
-stays-broken : (k : ℕ) (r : Reader) (f : List ℕ) → r.broken ≡ true → ended (through r k f) ≡ no_days 9
+stays-broken : (k : ℕ) (r : Reader) (f : List ℕ) → r.broken ≡ true → ended (through r k f) ≡ no_days BadLength
 unfolding through next ended
 stays-broken zero r f e = rw e
 stays-broken (suc k) r f e = stays-broken k (next r (take 512 f)) (drop 512 f) (rw e)
@@ -63,39 +67,28 @@ module _ (r : Reader) (b : List ℕ) (u : r.broken ≡ false) (h : length b ≡ 
   one-due l = one_more r b u h (omega (arith, f, ap (λ (x : Reader). x.blocks) e, ap (λ (x : Reader). blocks_for x.count) e)) ∙ ap (λ (x : Reader). taken x b) (sym e)
 
 -- the refusal of the first bad block, where one may have been bad before
-unfoldable bad_after : ℕ → ℕ → ℕ → ℕ → ℕ → List ℕ → ℕ
-bad_after refusal first count index k f = cond (eqb refusal 0) (first_bad first count index k f) refusal
+unfoldable bad_after : Result (Unit {0}) Refusal → ℕ → ℕ → ℕ → ℕ → List ℕ → Result (Unit {0}) Refusal
+bad_after sound first count index k f = and_then sound (λ _. first_bad first count index k f)
 
 -- what is said at the end, after a state and so many blocks that the count still demands
-unfoldable outcome : Reader → List ℕ → Reading
+unfoldable outcome : Reader → List ℕ → Result Reading Refusal
 outcome r f =
     let left : ℕ = blocks_for r.count - r.blocks in
-    cond (eqb (length f) (512 * left)) (days_unless (bad_after r.refusal r.first r.count r.blocks left f) r.first r.count) (no_days 9)
+    cond (eqb (length f) (512 * left)) (days_unless (bad_after r.sound r.first r.count r.blocks left f) r.first r.count) (no_days BadLength)
 
-bad-none : (refusal first count index : ℕ) (f : List ℕ) → bad_after refusal first count index 0 f ≡ refusal
+bad-none : (sound : Result (Unit {0}) Refusal) (first count index : ℕ) (f : List ℕ) → bad_after sound first count index 0 f ≡ sound
 unfolding bad_after first_bad
-bad-none refusal first count index f = go (eqb refusal 0) refl
-  where
-    go : (t : Bool) → eqb refusal 0 ≡ t → cond t 0 refusal ≡ refusal
-    go true e = sym (eqb-true refusal 0 e)
-    go false e = refl
+bad-none (Ok tt) first count index f = refl
+bad-none (Err r) first count index f = refl
 
 bad-step :
-    (refusal first count index k : ℕ) (f : List ℕ) →
-    bad_after (cond (eqb refusal 0) (block_refusal first count index (take 512 f)) refusal) first count (index + 1) k (drop 512 f) ≡ bad_after refusal first count index (suc k) f
+    (sound : Result (Unit {0}) Refusal) (first count index k : ℕ) (f : List ℕ) →
+    bad_after (and_then sound (λ _. block_refusal first count index (take 512 f))) first count (index + 1) k (drop 512 f) ≡ bad_after sound first count index (suc k) f
 unfolding bad_after first_bad
-bad-step refusal first count index k f = go (eqb refusal 0) refl
-  where
-    one : index + 1 ≡ suc index
-    one = omega arith
-
-    go :
-        (t : Bool) →
-        eqb refusal 0 ≡ t →
-        cond (eqb (cond t (block_refusal first count index (take 512 f)) refusal) 0) (first_bad first count (index + 1) k (drop 512 f)) (cond t (block_refusal first count index (take 512 f)) refusal)
-        ≡ cond t (cond (eqb (block_refusal first count index (take 512 f)) 0) (first_bad first count (suc index) k (drop 512 f)) (block_refusal first count index (take 512 f))) refusal
-    go true e = rw one
-    go false e = rw e
+bad-step (Ok tt) first count index k f =
+    let one : index + 1 ≡ suc index = omega arith in
+    ap (λ (i : ℕ). and_then (block_refusal first count index (take 512 f)) (λ _. first_bad first count i k (drop 512 f))) one
+bad-step (Err r) first count index k f = refl
 
 -- one block more: what is said of the rest
 outcome-step : (r : Reader) (f : List ℕ) → 512 ≤ length f → r.blocks < blocks_for r.count → outcome (taken r (take 512 f)) (drop 512 f) ≡ outcome r f
@@ -105,11 +98,11 @@ outcome-step r f h k =
     let left : K - r.blocks ≡ suc (K - (r.blocks + 1)) = omega arith in
     let same : eqb (length (drop 512 f)) (512 * (K - (r.blocks + 1))) ≡ eqb (length f) (512 * (K - r.blocks)) =
     eqb_same (length (drop 512 f)) (512 * (K - (r.blocks + 1))) (length f) (512 * (K - r.blocks)) (λ e. omega (arith, length-drop 512 f)) (λ e. omega (arith, length-drop 512 f)) in
-    let bad : bad_after (cond (eqb r.refusal 0) (block_refusal r.first r.count r.blocks (take 512 f)) r.refusal) r.first r.count (r.blocks + 1) (K - (r.blocks + 1)) (drop 512 f)
-    ≡ bad_after r.refusal r.first r.count r.blocks (K - r.blocks) f =
-    bad-step r.refusal r.first r.count r.blocks (K - (r.blocks + 1)) f
-    ∙ ap (λ (m : ℕ). bad_after r.refusal r.first r.count r.blocks m f) (sym left) in
-    ap₂ (λ (t : Bool) (x : ℕ). cond t (days_unless x r.first r.count) (no_days 9)) same bad
+    let bad : bad_after (and_then r.sound (λ _. block_refusal r.first r.count r.blocks (take 512 f))) r.first r.count (r.blocks + 1) (K - (r.blocks + 1)) (drop 512 f)
+    ≡ bad_after r.sound r.first r.count r.blocks (K - r.blocks) f =
+    bad-step r.sound r.first r.count r.blocks (K - (r.blocks + 1)) f
+    ∙ ap (λ (m : ℕ). bad_after r.sound r.first r.count r.blocks m f) (sym left) in
+    ap₂ (λ (t : Bool) (x : Result (Unit {0}) Refusal). cond t (days_unless x r.first r.count) (no_days BadLength)) same bad
 
 -- from the first block on
 record Going (r : Reader) : Type 0 where
@@ -121,7 +114,7 @@ taken-goes : (s : Reader) (b : List ℕ) → s.broken ≡ false → s.blocks < b
 unfolding taken
 taken-goes s b u m = record { unbroken = u; begun = omega arith; within = omega arith }
 
-outcome-off : (r : Reader) (f : List ℕ) → (length f ≡ 512 * (blocks_for r.count - r.blocks) → ⊥) → outcome r f ≡ no_days 9
+outcome-off : (r : Reader) (f : List ℕ) → (length f ≡ 512 * (blocks_for r.count - r.blocks) → ⊥) → outcome r f ≡ no_days BadLength
 unfolding outcome
 outcome-off r f h = rw (ne_eqb (length f) (512 * (blocks_for r.count - r.blocks)) h)
 
@@ -132,7 +125,7 @@ ended-there r f g h = go (dec_le (blocks_for r.count) r.blocks)
     go : Dec (blocks_for r.count ≤ r.blocks) → ended r ≡ outcome r f
     go (yes k) =
         let none : blocks_for r.count - r.blocks ≡ 0 = omega arith in
-        rw (g.unbroken, ne_eqb r.blocks 0 (λ z. omega (arith, g.begun)), eq-eqb r.blocks (blocks_for r.count) (omega (arith, g.within)), none, eq-eqb (length f) 0 h, bad-none r.refusal r.first r.count r.blocks f)
+        rw (g.unbroken, ne_eqb r.blocks 0 (λ z. omega (arith, g.begun)), eq-eqb r.blocks (blocks_for r.count) (omega (arith, g.within)), none, eq-eqb (length f) 0 h, bad-none r.sound r.first r.count r.blocks f)
     go (no k) =
         rw (
           g.unbroken,
@@ -173,27 +166,27 @@ entry-front f n k h =
     rw (get_or-take n f (4 * k) 0 (omega arith), get_or-take n f (4 * k + 1) 0 (omega arith), get_or-take n f (4 * k + 2) 0 (omega arith), get_or-take n f (4 * k + 3) 0 (omega arith))
 
 abbrev begun : List ℕ → Reader
-begun f = record { broken = false; blocks = 0; count = count_in f; first = first_in f; refusal = 0; block = 0 }
+begun f = record { broken = false; blocks = 0; count = count_in f; first = first_in f; sound = Ok tt; block = 0 }
 
 opened-first : (f : List ℕ) → opened start (take 512 f) ≡ begun f
 unfolding opened
 opened-first f =
-    ap₂ (λ (n d : ℕ). record { broken = false; blocks = 0; count = n; first = d; refusal = 0; block = 0 }) (entry-front f 512 1 (omega arith)) (entry-front f 512 2 (omega arith))
+    ap₂ (λ (n d : ℕ). record { broken = false; blocks = 0; count = n; first = d; sound = Ok tt; block = 0 }) (entry-front f 512 1 (omega arith)) (entry-front f 512 2 (omega arith))
 
 outcome-all : (f : List ℕ) → 512 ≤ length f → outcome (begun f) f ≡ reading_of f
 unfolding outcome reading_of length_holds bad_after
 outcome-all f h = let all : blocks_for (count_in f) - 0 ≡ blocks_for (count_in f) = omega arith in rw (all, le-leb 512 (length f) h)
 
 -- a length that does not hold
-reading-off : (f : List ℕ) → (512 ≤ length f → length f ≡ 512 * blocks_for (count_in f) → ⊥) → reading_of f ≡ no_days 9
+reading-off : (f : List ℕ) → (512 ≤ length f → length f ≡ 512 * blocks_for (count_in f) → ⊥) → reading_of f ≡ no_days BadLength
 unfolding reading_of length_holds
 reading-off f h = go (dec_le 512 (length f))
   where
-    go : Dec (512 ≤ length f) → reading_of f ≡ no_days 9
+    go : Dec (512 ≤ length f) → reading_of f ≡ no_days BadLength
     go (yes k) = rw (le-leb 512 (length f) k, ne_eqb (length f) (512 * blocks_for (count_in f)) (h k))
     go (no k) = rw (lt-leb 512 (length f) (omega arith))
 
-ended-start : ended start ≡ no_days 9
+ended-start : ended start ≡ no_days BadLength
 unfolding ended
 ended-start = refl
 
@@ -222,35 +215,41 @@ unfolding gone_through
 read_through f = from_start (pieces (length f)) f refl
 
 -- the next piece of a file, of the bytes that are left: going on from there is going through all
-abbrev pub Gone : List ℕ → Reader → ℕ → Type 0
-Gone f r at = through r (pieces (length f - at)) (drop at f) ≡ gone_through f
+abbrev pub Gone : List ℕ → Reader → List ℕ → Type 0
+Gone f r left = through r (pieces (length left)) left ≡ gone_through f
 
-pub gone-start : (f : List ℕ) (r : Reader) → r ≡ start → Gone f r 0
+pub gone-start : (f left : List ℕ) (r : Reader) → r ≡ start → left ≡ f → Gone f r left
 unfolding gone_through
-gone-start f r e = let all : length f - 0 ≡ length f = omega arith in ap₂ (λ (s : Reader) (n : ℕ). through s (pieces n) f) e all
+gone-start f left r e a = ap₂ (λ (s : Reader) (l : List ℕ). through s (pieces (length l)) l) e a
 
-piece_is : (f : List ℕ) (at p : ℕ) → at < length f → p ≡ min 512 (length f - at) → take (at + p - at) (drop at f) ≡ take 512 (drop at f)
-piece_is f at p h e = go (dec_le 512 (length f - at))
-  where
-    go : Dec (512 ≤ length f - at) → take (at + p - at) (drop at f) ≡ take 512 (drop at f)
-    go (yes k) = let all : at + p - at ≡ 512 = omega arith in ap (λ (n : ℕ). take n (drop at f)) all
-    go (no k) = take_all (at + p - at) (drop at f) (omega (arith, length-drop at f)) ∙ sym (take_all 512 (drop at f) (omega (arith, length-drop at f)))
+module _ (left piece rest : List ℕ) (parts : left ≡ piece ++ rest) (size : length piece ≡ min 512 (length left)) where
+  piece_is : take 512 left ≡ piece
+  piece_is = go (dec_le 512 (length left))
+    where
+      go : Dec (512 ≤ length left) → take 512 left ≡ piece
+      go (yes k) = ap (take 512) parts ∙ take_at piece rest 512 (omega arith)
+      go (no k) =
+          take_all 512 left (omega arith) ∙ sym (take_all (length left) left (omega arith)) ∙ ap (take (length left)) parts ∙ take_at piece rest (length left) (omega arith)
 
-rest-is : (f : List ℕ) (at p : ℕ) → at < length f → p ≡ min 512 (length f - at) → drop (at + p) f ≡ drop 512 (drop at f)
-rest-is f at p h e = go (dec_le 512 (length f - at)) ∙ sym (drop-drop 512 at f)
-  where
-    go : Dec (512 ≤ length f - at) → drop (at + p) f ≡ drop (at + 512) f
-    go (yes k) = let all : at + p ≡ at + 512 = omega arith in ap (λ (n : ℕ). drop n f) all
-    go (no k) = drop_of_length-le f {i = at + p} (omega arith) ∙ sym (drop_of_length-le f {i = at + 512} (omega arith))
+  rest-is : drop 512 left ≡ rest
+  rest-is = go (dec_le 512 (length left))
+    where
+      go : Dec (512 ≤ length left) → drop 512 left ≡ rest
+      go (yes k) = ap (drop 512) parts ∙ drop_at piece rest 512 (omega arith)
+      go (no k) =
+          drop_of_length-le left {i = 512} (omega arith)
+          ∙ sym (drop_of_length-le left {i = length left} (omega arith))
+          ∙ ap (drop (length left)) parts
+          ∙ drop_at piece rest (length left) (omega arith)
 
-pub gone-on : (f : List ℕ) (r s : Reader) (at p : ℕ) → at < length f → p ≡ min 512 (length f - at) → s ≡ next r (take (at + p - at) (drop at f)) → Gone f r at → Gone f s (at + p)
+  pub gone-on : (f : List ℕ) (r s : Reader) → 0 < length left → s ≡ next r piece → Gone f r left → Gone f s rest
+  unfolding through
+  gone-on f r s h n g =
+      let one : pieces (length left) ≡ suc (pieces (length rest)) = omega (arith, ap length parts, length-append piece rest) in
+      ap₂ (λ (x : Reader) (l : List ℕ). through x (pieces (length rest)) l) (n ∙ ap (next r) (sym piece_is)) (sym rest-is)
+      ∙ sym (ap (λ (k : ℕ). through r k left) one)
+      ∙ g
+
+pub gone-end : (f left : List ℕ) (r : Reader) → length left ≡ 0 → Gone f r left → r ≡ gone_through f
 unfolding through
-gone-on f r s at p h e n g =
-    let one : pieces (length f - at) ≡ suc (pieces (length f - (at + p))) = omega arith in
-    ap₂ (λ (x : Reader) (l : List ℕ). through x (pieces (length f - (at + p))) l) (n ∙ ap (next r) (piece_is f at p h e)) (rest-is f at p h e)
-    ∙ sym (ap (λ (k : ℕ). through r k (drop at f)) one)
-    ∙ g
-
-pub gone-end : (f : List ℕ) (r : Reader) (at : ℕ) → length f ≤ at → Gone f r at → r ≡ gone_through f
-unfolding through
-gone-end f r at h g = let none : pieces (length f - at) ≡ 0 = omega arith in sym (ap (λ (k : ℕ). through r k (drop at f)) none) ∙ g
+gone-end f left r h g = let none : pieces (length left) ≡ 0 = omega arith in sym (ap (λ (k : ℕ). through r k left) none) ∙ g

@@ -6,6 +6,7 @@ use Prim.Native.Nat.{ℕ}
 use lib.ListN.{replicate}
 use Rattle.entries.specs.Entries.{entry, entries, entry_day}
 use Rattle.blocks.specs.Blocks.{weighted, checksum, sealed, all_zero, checksum_holds, days_in, day_holds, days_hold, block_refusal}
+use Rattle.days.specs.Refusals.{result_number}
 use Rattle.almanac.specs.Reading.{length_holds, first_bad, days_unless, reading_of}
 
 -- the first numbers of a block of one day, and zeros behind them: sealed with their checksum, or with no checksum
@@ -19,6 +20,6 @@ files =
     ∷ sealed (entries (0 ∷ 1 ∷ 401600 ∷ []) ++ replicate 496 0)
     ∷ []
 
-pub each-reached : map (λ (f : List ℕ). (reading_of f).refusal) files ≡ 9 ∷ 10 ∷ 11 ∷ 12 ∷ 13 ∷ []
-unfolding entries entry entry_day weighted checksum sealed all_zero checksum_holds days_in day_holds days_hold block_refusal length_holds first_bad days_unless reading_of
+pub each-reached : map (λ (f : List ℕ). result_number (reading_of f)) files ≡ 9 ∷ 10 ∷ 11 ∷ 12 ∷ 13 ∷ []
+unfolding entries entry entry_day weighted checksum sealed all_zero checksum_holds days_in day_holds days_hold block_refusal length_holds first_bad days_unless reading_of result_number
 each-reached = refl

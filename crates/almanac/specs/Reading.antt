@@ -1,21 +1,24 @@
 -- What is read of an almanac file, whole and block by block.
 -- Assumes nothing.
-use Rattle.std.specs.Prelude.{Bool, true, false, cond, ◌&&◌, List, ℕ, zero, suc, ◌+◌, ◌/◌, leb, ltb, eqb, length, take, drop}
-use Rattle.days.specs.Refusals.{accepted, list_too_short, bad_length}
+use Rattle.std.specs.Prelude.{Bool, true, false, cond, ◌&&◌, List, [], ℕ, zero, suc, ◌+◌, ◌/◌, leb, ltb, eqb, length, take, drop, Result, Ok, Err, is_ok}
+use Rattle.days.specs.declared.refusal.Refusal.{Refusal}
+use Rattle.days.specs.declared.refusal.Refusal.TheVariants.{BadLength}
+use Rattle.days.specs.Refusals.{accepted, bad_length, result_number, and_then}
 use Rattle.days.specs.Days.{days_from}
 use Rattle.entries.specs.Entries.{capacity, with_entries, entry_day}
 use Rattle.blocks.specs.Blocks.{block_bytes, block_refusal}
-use Rattle.almanac.specs.declared.Transfer.{Transfer}
+use Rattle.entries.specs.declared.NotPut.{NotPut}
+use Rattle.entries.specs.Told.{put_if, put_number}
 use Rattle.almanac.specs.declared.Reader.{Reader}
 use Rattle.almanac.specs.declared.Reading.{Reading}
 use Rattle.almanac.specs.Files.{blocks_for, bytes_for}
 
--- the days that are read; and a refusal, which has zeros
-abbrev pub the_days : ℕ → ℕ → Reading
-the_days first count = record { refusal = accepted; first = first; count = count }
+-- the days that are read; and a refusal
+abbrev pub the_days : ℕ → ℕ → Result Reading Refusal
+the_days first count = Ok (record { first = first; count = count })
 
-abbrev pub no_days : ℕ → Reading
-no_days refusal = record { refusal = refusal; first = 0; count = 0 }
+abbrev pub no_days : Refusal → Result Reading Refusal
+no_days refusal = Err refusal
 
 -- what the first block says: the days in the whole file, and the first of them
 abbrev pub count_in : List ℕ → ℕ
@@ -28,48 +31,51 @@ first_in f = entry_day f 2
 unfoldable pub length_holds : List ℕ → Bool
 length_holds f = leb block_bytes (length f) && eqb (length f) (bytes_for (count_in f))
 
--- the refusal of the first bad block, of k blocks from block `index` on; 0 where none is bad
-unfoldable pub first_bad : ℕ → ℕ → ℕ → ℕ → List ℕ → ℕ
-first_bad first count index zero f = accepted
-first_bad first count index (suc k) f =
-    let refusal : ℕ = block_refusal first count index (take block_bytes f) in
-    cond (eqb refusal accepted) (first_bad first count (suc index) k (drop block_bytes f)) refusal
+-- the refusal of the first bad block, of k blocks from block `index` on, if one is bad
+unfoldable pub first_bad : ℕ → ℕ → ℕ → ℕ → List ℕ → Result (Unit {0}) Refusal
+first_bad first count index zero f = Ok tt
+first_bad first count index (suc k) f = and_then (block_refusal first count index (take block_bytes f)) (λ _. first_bad first count (suc index) k (drop block_bytes f))
 
 -- the days, where no block is bad
-unfoldable pub days_unless : ℕ → ℕ → ℕ → Reading
-days_unless refusal first count = cond (eqb refusal accepted) (the_days first count) (no_days refusal)
+unfoldable pub days_unless : Result (Unit {0}) Refusal → ℕ → ℕ → Result Reading Refusal
+days_unless sound first count = and_then sound (λ _. the_days first count)
 
 -- WHAT A FILE MEANS: refusal 9 for its length, then that of its first bad block, or its days
-unfoldable pub reading_of : List ℕ → Reading
+unfoldable pub reading_of : List ℕ → Result Reading Refusal
 reading_of f =
     let first : ℕ = first_in f in
     let count : ℕ = count_in f in
-    cond (length_holds f) (days_unless (first_bad first count 0 (blocks_for count) f) first count) (no_days bad_length)
+    cond (length_holds f) (days_unless (first_bad first count 0 (blocks_for count) f) first count) (no_days BadLength)
 
--- the result for a list of so many entries: the file's refusal, then 7 where the list has fewer entries than there are
--- days
+-- how many days are read, and which
+abbrev pub count_read : Result Reading Refusal → Result ℕ Refusal
+count_read reading = and_then reading (λ r. Ok r.count)
+
+abbrev pub days_read : Result Reading Refusal → List ℕ
+days_read (Ok r) = days_from r.first r.count
+days_read (Err _) = []
+
+-- WHAT IS HANDED BACK for a list of so many entries: the number of days, or with 7 what would do, or the file's refusal
+unfoldable pub listing_of : List ℕ → ℕ → Result ℕ NotPut
+listing_of f room = put_if (count_read (reading_of f)) room
+
+-- the result: the file's refusal, then 7 where the list has fewer entries than there are days
 unfoldable pub reading_result : List ℕ → ℕ → ℕ
-reading_result f room =
-    let read : Reading = reading_of f in
-    cond (eqb read.refusal accepted) (cond (leb read.count room) accepted list_too_short) read.refusal
-
--- WHAT IS HANDED BACK: with 0 and with 7 the number of days, and 0; else all zeros
-unfoldable pub listing_of : List ℕ → ℕ → Transfer
-listing_of f room = record { refusal = reading_result f room; length = (reading_of f).count; examined = 0 }
+reading_result f room = put_number (listing_of f room)
 
 -- THE LIST AFTERWARDS: with the days at its front, or by any refusal as it was
 unfoldable pub list_after : List ℕ → List ℕ → List ℕ
-list_after f before = cond (eqb (reading_result f (capacity before)) accepted) (with_entries (days_from (reading_of f).first (reading_of f).count) before) before
+list_after f before = cond (eqb (reading_result f (capacity before)) accepted) (with_entries (days_read (reading_of f)) before) before
 
 -- BLOCK BY BLOCK: the state before the first piece of a file
 abbrev pub start : Reader
-start = record { broken = false; blocks = 0; count = 0; first = 0; refusal = accepted; block = 0 }
+start = record { broken = false; blocks = 0; count = 0; first = 0; sound = Ok tt; block = 0 }
 
 -- with what the first block says
 unfoldable pub opened : Reader → List ℕ → Reader
 opened r b =
     cond (eqb r.blocks 0)
-    (record { broken = r.broken; blocks = r.blocks; count = count_in b; first = first_in b; refusal = r.refusal; block = r.block })
+    (record { broken = r.broken; blocks = r.blocks; count = count_in b; first = first_in b; sound = r.sound; block = r.block })
     r
 
 -- with a block more, which is looked at where none was bad before
@@ -80,13 +86,13 @@ taken r b =
       blocks = r.blocks + 1;
       count = r.count;
       first = r.first;
-      refusal = cond (eqb r.refusal accepted) (block_refusal r.first r.count r.blocks b) r.refusal;
-      block = cond (eqb r.refusal accepted) r.blocks r.block;
+      sound = and_then r.sound (λ _. block_refusal r.first r.count r.blocks b);
+      block = cond (is_ok r.sound) r.blocks r.block;
     }
 
 -- with a length that cannot be right any more
 abbrev pub broken_off : Reader → Reader
-broken_off r = record { broken = true; blocks = r.blocks; count = r.count; first = r.first; refusal = r.refusal; block = r.block }
+broken_off r = record { broken = true; blocks = r.blocks; count = r.count; first = r.first; sound = r.sound; block = r.block }
 
 -- the state after the next piece: a block, if the count demands one more, and otherwise nothing that a file could have
 -- here
@@ -96,16 +102,16 @@ next r b =
     cond r.broken r (cond (eqb (length b) block_bytes && ltb o.blocks (blocks_for o.count)) (taken o b) (broken_off r))
 
 -- what is read, where the file ends here
-unfoldable pub ended : Reader → Reading
+unfoldable pub ended : Reader → Result Reading Refusal
 ended r =
-    cond r.broken (no_days bad_length)
-    (cond (eqb r.blocks 0) (no_days bad_length)
-    (cond (eqb r.blocks (blocks_for r.count)) (days_unless r.refusal r.first r.count) (no_days bad_length)))
+    cond r.broken (no_days BadLength)
+    (cond (eqb r.blocks 0) (no_days BadLength)
+    (cond (eqb r.blocks (blocks_for r.count)) (days_unless r.sound r.first r.count) (no_days BadLength)))
 
 -- the block at fault, where the file ends here and is refused: by its length the one that is too few or too many, else
 -- the first bad one
 unfoldable pub fault_at : Reader → ℕ
-fault_at r = cond (eqb (ended r).refusal bad_length) r.blocks r.block
+fault_at r = cond (eqb (result_number (ended r)) bad_length) r.blocks r.block
 
 -- the state after k pieces of a file, 512 bytes each but for the last
 unfoldable pub through : Reader → ℕ → List ℕ → Reader

@@ -1,8 +1,9 @@
 -- What is printed and said of an almanac file that was read.
 -- Assumes nothing.
-use Rattle.std.specs.Prelude.{cond, List, [], ◌∷◌, ◌++◌, map, ℕ, leb, eqb}
+use Rattle.std.specs.Prelude.{cond, List, [], ◌∷◌, ◌++◌, map, ℕ, leb, eqb, Result, Ok, Err}
 use Rattle.days.specs.Days.{last_day, days_from}
-use Rattle.days.specs.Refusals.{accepted, bad_length, bad_checksum, bad_index, not_zero}
+use Rattle.days.specs.declared.refusal.Refusal.{Refusal}
+use Rattle.days.specs.Refusals.{bad_length, bad_checksum, bad_index, not_zero, refusal_number}
 use Rattle.almanac.specs.declared.Reading.{Reading}
 use Rattle.month_sheet.specs.MonthSheets.{month_heading, record_line}
 use Rattle.panchanga.specs.TrueLongitudes.{first_edition}
@@ -27,8 +28,12 @@ fault_line block refusal = ascii "block " ++ (digits_of block ++ (ascii ": " ++ 
 unfoldable pub day_line : ℕ → List ℕ
 day_line n = cond (leb n last_day) (record_line (record_on first_edition n)) []
 
--- the lines of what was read: a month's heading and a line for each day, or the refusal. The law `file-line`: of a file
--- each day has its line, whole
-unfoldable pub reading_lines : Reading → List (List ℕ)
-reading_lines r =
-    cond (eqb r.refusal accepted) (month_heading ∷ map day_line (days_from r.first r.count)) (refusal_line r.refusal ∷ [])
+-- the lines of days that were read: a month's heading and a line for each day. The law `file-line`: of a file each day
+-- has its line, whole
+unfoldable pub days_lines : Reading → List (List ℕ)
+days_lines r = month_heading ∷ map day_line (days_from r.first r.count)
+
+-- the lines of what was read: those, or the refusal
+unfoldable pub reading_lines : Result Reading Refusal → List (List ℕ)
+reading_lines (Ok r) = days_lines r
+reading_lines (Err q) = refusal_line (refusal_number q) ∷ []

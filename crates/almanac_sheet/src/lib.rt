@@ -5,10 +5,11 @@
 ghost use Rattle.std.specs.Prelude.{◌≡◌, length};
 ghost use Rattle.text.specs.Lines.{with_bytes, Holds};
 ghost use Rattle.text.specs.Sheets.{line_at};
-ghost use Rattle.almanac_sheet.specs.AlmanacSheets.{fault_text, fault_line, day_line, reading_lines};
+ghost use Rattle.almanac_sheet.specs.AlmanacSheets.{fault_text, fault_line, day_line, days_lines, reading_lines};
 
 use almanac::Reading;
-use days::{Day, refusal};
+use days::Day;
+use days::refusal::{self, Refusal};
 use text::Line;
 
 fn with_reason(line: Line, refusal: u32) -> Line
@@ -40,30 +41,39 @@ fn day_line(day: u64) -> Line
     if (Day::LAST as u64) < day {
         return Line::empty();
     }
-    let answer = records::record_of(panchanga::FIRST_EDITION, day as u32);
-    month_sheet::record_line(answer.day_record)
+    let filled = records::record_of(panchanga::FIRST_EDITION, day as u32).unwrap();
+    month_sheet::record_line(filled)
 }
 
 // How many lines are printed of what was read; a refusal is one.
-pub fn line_count(reading: Reading) -> usize
+pub fn line_count(reading: Result<Reading, Refusal>) -> usize
     ensures { result ≡ length (reading_lines reading) }
 {
-    if reading.refusal != refusal::NONE {
-        return 1;
+    match reading {
+        Ok(reading) => 1 + reading.count as usize,
+        Err(_) => 1,
     }
-    1 + reading.count as usize
 }
 
 // One of the lines that are printed of what was read, counted from 0; behind the last one nothing.
-pub fn line(reading: Reading, index: usize) -> Line
+pub fn line(reading: Result<Reading, Refusal>, index: usize) -> Line
     ensures { Holds result (line_at (reading_lines reading) index) }
 {
-    if reading.refusal != refusal::NONE {
-        if index == 0 {
-            return text::refusal_line(reading.refusal);
+    match reading {
+        Ok(reading) => read_line(reading, index),
+        Err(refusal) => {
+            if index == 0 {
+                return text::refusal_line(refusal.number());
+            }
+            Line::empty()
         }
-        return Line::empty();
     }
+}
+
+// The same of days that were read.
+fn read_line(reading: Reading, index: usize) -> Line
+    ensures { Holds result (line_at (days_lines reading) index) }
+{
     if index == 0 {
         return month_sheet::heading();
     }

@@ -2,19 +2,23 @@
 -- are not.
 -- Assumes nothing.
 use mathlib.Core.Bool.{Bool, true, false, cond}
-use mathlib.Core.Path.{◌≡◌, refl, sym, ◌∙◌, subst}
+use mathlib.Core.Path.{◌≡◌, refl, sym, ap, ◌∙◌, subst}
 use Prim.Native.Nat.{ℕ, ◌<◌, ◌≤◌}
 use native.Mathlib.Decide.{dec_le}
 use native.Mathlib.Omega.{arith}
 use borrow.Author.Tests.{le-leb, lt-leb, lt-ltb, le-ltb, eq-eqb, ne_eqb}
-use lib.Dec.{ltb, eqb}
+use lib.Dec.{leb, ltb, eqb}
 use lib.IntN.{pos}
 use lib.Ieee.{Float, round}
 use Rattle.days.specs.Days.{last_day}
-use Rattle.days.specs.Refusals.{accepted, out_of_range, no_such_body}
+use Rattle.std.specs.Prelude.{Result, Ok, Err}
+use Rattle.days.specs.declared.refusal.Refusal.{Refusal}
+use Rattle.days.specs.declared.refusal.Refusal.TheVariants.{OutOfRange, NoSuchBody}
+use Rattle.days.specs.Refusals.{accepted, out_of_range, no_such_body, refusal_number}
 use Rattle.longitudes.specs.Longitudes.{circle}
 use Rattle.arms.specs.declared.Order.TheVariants.{Hold, Go, Run}
-use Rattle.arms.specs.declared.OrderAnswer.{OrderAnswer}
+use Rattle.arms.specs.declared.Order.{Order}
+use Rattle.arms.specs.Parts.{body_on}
 use Rattle.arms.specs.Degrees.{degrees_of}
 use Rattle.arms.specs.Orders.{AnswerNumbers, no_degrees, order_number, order_value, answer_numbers, order_refusal, Longitude, angle_on, rate_on, held, place_of, follow_of}
 use Rattle.arms.specs.Ranges.{IsAngle, ExactAngle, IsRate, IsTrueRate}
@@ -41,6 +45,39 @@ in-ranges day body e = go (dec_le day last_day) (dec_le body 8)
     go (yes h) (no k) = absurd (omega (arith, body_refused day body h (omega arith)))
     go (yes h) (yes k) = (h, k)
 
+-- what the code finds of a day and a body is so
+pub record Checked (day body n : ℕ) : Type 0 where
+  pub accepted : order_refusal day body ≡ accepted
+  pub number : n ≡ body
+
+pub order-checked : (day body : ℕ) {n : ℕ} → Ok n ≡ body_on day body → Checked day body n
+unfolding body_on order_refusal
+order-checked day body {n} e = go (leb day last_day) (leb body 8) refl refl e
+  where
+    is : order_refusal day body ≡ accepted → n ≡ body → Checked day body n
+    is a b = record { accepted = a; number = b }
+
+    go : (t u : Bool) → leb day last_day ≡ t → leb body 8 ≡ u → Ok n ≡ cond t (cond u (Ok body) (Err NoSuchBody)) (Err OutOfRange) → Checked day body n
+    go true true et eu e = is (rw (et, eu)) cc
+    go true false et eu e = absurd cc
+    go false u et eu e = absurd cc
+
+pub record Refused (day body : ℕ) (r : Refusal) : Type 0 where
+  pub number : refusal_number r ≡ order_refusal day body
+  pub not_accepted : order_refusal day body ≡ accepted → ⊥
+
+pub order-refused : (day body : ℕ) {r : Refusal} → Err r ≡ body_on day body → Refused day body r
+unfolding body_on order_refusal
+order-refused day body {r} e = go (leb day last_day) (leb body 8) refl refl e
+  where
+    is : {s : Refusal} (n : ℕ) → r ≡ s → refusal_number s ≡ n → (n ≡ accepted → ⊥) → order_refusal day body ≡ n → Refused day body r
+    is n i f p o = record { number = ap refusal_number i ∙ f ∙ sym o; not_accepted = λ z. p (sym o ∙ z) }
+
+    go : (t u : Bool) → leb day last_day ≡ t → leb body 8 ≡ u → Err r ≡ cond t (cond u (Ok body) (Err NoSuchBody)) (Err OutOfRange) → Refused day body r
+    go true true et eu e = absurd cc
+    go true false et eu e = let i : r ≡ NoSuchBody = cc in is no_such_body i refl (λ z. absurd (omega arith)) (rw (et, eu))
+    go false u et eu e = let i : r ≡ OutOfRange = cc in is out_of_range i refl (λ z. absurd (omega arith)) (rw et)
+
 none_is : degrees_of (pos 0) ≡ no_degrees
 unfolding degrees_of round
 none_is = refl
@@ -54,43 +91,41 @@ hold-rate = subst IsRate none_is (rate-range (pos 0) (omega arith))
 pub hold-true-rate : IsTrueRate no_degrees
 hold-true-rate = subst IsTrueRate none_is (true-rate-range (pos 0) (omega arith))
 
--- ---- place, with the refusal r
+-- ---- place
 
 -- what it promises of its answer
-abbrev pub Placed : Longitude → ℕ → ℕ → OrderAnswer → Type 0
+abbrev pub Placed : Longitude → ℕ → ℕ → Result Order Refusal → Type 0
 Placed at day body a =
-    (answer_numbers a ≡ place_of at day body) × (IsAngle (order_value a.order) × ExactAngle at day body (order_value a.order))
+    (answer_numbers a ≡ place_of at day body) × (IsAngle (answer_numbers a).value × ExactAngle at day body (answer_numbers a).value)
 
-module _ (at : Longitude) (day body r : ℕ) (e : r ≡ order_refusal day body) where
-  pub place-held : (r ≡ accepted → ⊥) → Placed at day body (record { refusal = r; order = Hold })
+module _ (at : Longitude) (day body : ℕ) where
+  pub place-held : {r : Refusal} → Refused day body r → Placed at day body (Err r)
+  unfolding place_of
+  place-held f = (rw (f.number, ne_eqb _ _ f.not_accepted), (hold-angle, λ z. absurd (f.not_accepted z)))
+
+  pub place-goes : order_refusal day body ≡ accepted → at day body < circle → (x : Float) → x ≡ angle_on at day body → Placed at day body (Ok (Go x))
   unfolding place_of order_number order_value
-  place-held h =
-      let k : order_refusal day body ≡ accepted → ⊥ = λ z. h (e ∙ z) in
-      (rw (e, ne_eqb _ _ k), (hold-angle, λ z. absurd (k z)))
+  place-goes e small x f =
+      (rw (f, eq-eqb _ _ e), (subst IsAngle (sym f) (angle-range _ small), λ z m. subst (λ (y : Float). ExactAngle at day body y) (sym f) (λ u v. exact _ small v) z m))
 
-  pub place-goes : r ≡ accepted → at day body < circle → (x : Float) → x ≡ angle_on at day body → Placed at day body (record { refusal = r; order = Go x })
-  unfolding place_of order_number order_value
-  place-goes h small x f =
-      (rw (f, h, eq-eqb _ _ (sym e ∙ h)), (subst IsAngle (sym f) (angle-range _ small), λ z m. subst (λ (y : Float). ExactAngle at day body y) (sym f) (λ u v. exact _ small v) z m))
+-- ---- follow; P is the range of its rates
 
--- ---- follow, with the refusal r; P is the range of its rates
+abbrev pub Followed : Longitude → (Float → Type 0) → ℕ → ℕ → Result Order Refusal → Type 0
+Followed at P day body a = (answer_numbers a ≡ follow_of at day body) × P (answer_numbers a).value
 
-abbrev pub Followed : Longitude → (Float → Type 0) → ℕ → ℕ → OrderAnswer → Type 0
-Followed at P day body a = (answer_numbers a ≡ follow_of at day body) × P (order_value a.order)
-
-module _ (at : Longitude) (P : Float → Type 0) (day body r : ℕ) (e : r ≡ order_refusal day body) where
-  pub follow-held : P no_degrees → (r ≡ accepted → ⊥) → Followed at P day body (record { refusal = r; order = Hold })
-  unfolding follow_of order_number order_value
-  follow-held p h = (rw (e, ne_eqb _ _ (λ z. h (e ∙ z))), p)
+module _ (at : Longitude) (P : Float → Type 0) (day body : ℕ) where
+  pub follow-held : P no_degrees → {r : Refusal} → Refused day body r → Followed at P day body (Err r)
+  unfolding follow_of
+  follow-held p f = (rw (f.number, ne_eqb _ _ f.not_accepted), p)
 
   -- on the last day
-  pub follow-ends : P no_degrees → r ≡ accepted → last_day ≤ day → Followed at P day body (record { refusal = r; order = Hold })
+  pub follow-ends : P no_degrees → order_refusal day body ≡ accepted → last_day ≤ day → Followed at P day body (Ok Hold)
   unfolding follow_of order_number order_value
-  follow-ends p h k = (rw (h, eq-eqb _ _ (sym e ∙ h), le-ltb _ _ k), p)
+  follow-ends p e k = (rw (eq-eqb _ _ e, le-ltb _ _ k), p)
 
-  pub follow-runs : r ≡ accepted → day < last_day → (x : Float) → x ≡ rate_on at day body → P (rate_on at day body) → Followed at P day body (record { refusal = r; order = Run x })
+  pub follow-runs : order_refusal day body ≡ accepted → day < last_day → (x : Float) → x ≡ rate_on at day body → P (rate_on at day body) → Followed at P day body (Ok (Run x))
   unfolding follow_of order_number order_value
-  follow-runs h k x f p = (rw (f, h, eq-eqb _ _ (sym e ∙ h), lt-ltb _ _ k), subst P (sym f) p)
+  follow-runs e k x f p = (rw (f, eq-eqb _ _ e, lt-ltb _ _ k), subst P (sym f) p)
 
 -- ---- whether an order is refused, and which it is, hangs on no longitude
 

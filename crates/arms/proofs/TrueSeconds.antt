@@ -7,9 +7,9 @@ use native.Mathlib.Omega.{arith}
 use lib.Dec.{eqb, ltb}
 use borrow.Author.Tests.{ne_eqb, lt-ltb, le-ltb}
 use Rattle.days.specs.declared.Day.{Day}
-use Rattle.days.specs.declared.NumberAnswer.{NumberAnswer}
-use Rattle.days.specs.Days.{last_day, pair_at, on_day}
-use Rattle.days.proofs.Laws.{pair-in-range, given-number}
+use Rattle.std.specs.Prelude.{Ok}
+use Rattle.days.specs.Days.{last_day, pair_at, answer_on}
+use Rattle.days.proofs.Laws.{pair-in-range, given, told}
 use Rattle.longitudes.specs.Longitudes.{circle}
 use Rattle.longitudes.proofs.Table.{longitude-small}
 use Rattle.panchanga.specs.TrueLongitudes.{first_edition}
@@ -50,8 +50,11 @@ true-small n b = go (eqb b 0) (eqb b 1) (ltb b 4)
     go false false false = planet-small _ _
 
 -- what a call hands back of the pair of a day, where the body's true longitude is that number of it
-pub given-as : (f : Day → ℕ) (n b : ℕ) {d : Day} {a : NumberAnswer} → n ≤ last_day → true_seconds_on n b ≡ f (pair_at n) → d ≡ pair_at n → a ≡ on_day f d → (a.number ≡ true_seconds_on n b) × (a.number < circle)
-given-as f n b {d} {a} h t p e = (is, rw is (true-small n b))
+pub given-as : (f : Day → ℕ) (n b : ℕ) {d : Day} {v : ℕ} → true_seconds_on n b ≡ f (pair_at n) → d ≡ pair_at n → Ok v ≡ answer_on f d → (v ≡ true_seconds_on n b) × (v < circle)
+given-as f n b {d} {v} t p e = (is, rw is (true-small n b))
   where
-    is : a.number ≡ true_seconds_on n b
-    is = given-number f (pair_at n) (e ∙ ap (on_day f) p) (pair-in-range n h) ∙ sym t
+    is : v ≡ true_seconds_on n b
+    is = (told f d e).value ∙ ap f p ∙ sym t
+
+pub is-given : (f : Day → ℕ) (n : ℕ) {d : Day} → n ≤ last_day → d ≡ pair_at n → answer_on f d ≡ Ok (f (pair_at n))
+is-given f n h p = ap (answer_on f) p ∙ given f _ (pair-in-range n h)

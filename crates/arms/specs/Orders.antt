@@ -1,19 +1,19 @@
 -- Orders for the arms: what an order does to an arm, which order places or follows a body, and the numbers of each
 -- case.
 -- Assumes nothing.
-use Rattle.std.specs.Prelude.{false, cond, ℕ, ◌+◌, ◌-◌, leb, ltb, eqb, pos, Float}
+use Rattle.std.specs.Prelude.{false, cond, ℕ, ◌+◌, ◌-◌, leb, ltb, eqb, pos, Float, Result, Ok, Err}
 use Rattle.std.specs.Float.{fin}
 use Rattle.days.specs.Days.{last_day, pair_at}
-use Rattle.days.specs.Refusals.{accepted, out_of_range, bad_input, no_such_body}
+use Rattle.days.specs.declared.refusal.Refusal.{Refusal}
+use Rattle.days.specs.declared.refusal.Refusal.TheVariants.{BadInput}
+use Rattle.days.specs.Refusals.{accepted, out_of_range, no_such_body, refusal_number}
 use Rattle.longitudes.specs.Longitudes.{longitude_at}
 use Rattle.panchanga.specs.TrueLongitudes.{first_edition}
 use Rattle.panchanga.specs.OnDays.{true_sun_at, true_moon_at}
 use Rattle.planets.specs.OnDays.{true_planet_at}
 use Rattle.arms.specs.declared.Arm.{Arm}
-use Rattle.arms.specs.declared.ArmAnswer.{ArmAnswer}
 use Rattle.arms.specs.declared.Order.{Order}
 use Rattle.arms.specs.declared.Order.TheVariants.{Hold, Go, Run}
-use Rattle.arms.specs.declared.OrderAnswer.{OrderAnswer}
 use Rattle.arms.specs.Degrees.{degrees_of, short_way}
 
 -- 0 degrees, the positive zero
@@ -37,16 +37,13 @@ order_value Hold = no_degrees
 order_value (Go angle) = angle
 order_value (Run rate) = rate
 
-abbrev pub the_arm : Arm → ArmAnswer
-the_arm arm = record { refusal = accepted; arm = arm }
-
--- the arm after the order with a number and a value; an order above 2 is refused, and gives all zeros
-unfoldable pub carried_out_numbered : Arm → ℕ → Float → ArmAnswer
+-- the arm after the order with a number and a value; an order above 2 is refused
+unfoldable pub carried_out_numbered : Arm → ℕ → Float → Result Arm Refusal
 carried_out_numbered arm number value =
-    cond (eqb number 0) (the_arm (carried_out arm Hold))
-    (cond (eqb number 1) (the_arm (carried_out arm (Go value)))
-    (cond (eqb number 2) (the_arm (carried_out arm (Run value)))
-    (record { refusal = bad_input; arm = record { angle = no_degrees; rate = no_degrees } })))
+    cond (eqb number 0) (Ok (carried_out arm Hold))
+    (cond (eqb number 1) (Ok (carried_out arm (Go value)))
+    (cond (eqb number 2) (Ok (carried_out arm (Run value)))
+    (Err BadInput)))
 
 -- an answer in numbers: the refusal or 0, and the order's two
 pub record AnswerNumbers : Type 0 where
@@ -54,8 +51,10 @@ pub record AnswerNumbers : Type 0 where
   pub order : ℕ
   pub value : Float
 
-abbrev pub answer_numbers : OrderAnswer → AnswerNumbers
-answer_numbers a = record { refusal = a.refusal; order = order_number a.order; value = order_value a.order }
+-- what is refused is told as an order to hold
+abbrev pub answer_numbers : Result Order Refusal → AnswerNumbers
+answer_numbers (Ok order) = record { refusal = accepted; order = order_number order; value = order_value order }
+answer_numbers (Err r) = record { refusal = refusal_number r; order = 0; value = no_degrees }
 
 -- 2 for the day, then 16 for a body above 8, or 0
 unfoldable pub order_refusal : ℕ → ℕ → ℕ

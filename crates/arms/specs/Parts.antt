@@ -1,7 +1,9 @@
--- What only contracts of private functions speak of: a body's whole seconds by its steps, and the short way of a way
--- forwards.
+-- What only contracts of private functions speak of: whether an order is refused, a body's whole seconds by its steps,
+-- and the short way of a way forwards.
 -- Assumes nothing.
-use Rattle.std.specs.Prelude.{cond, ◌≡◌, ℕ, ◌+◌, ◌*◌, ◌-◌, ◌/◌, ◌%◌, ◌≤◌, ◌<◌, ltb, ℤ, pos, ◌-ℤ◌}
+use Rattle.std.specs.Prelude.{cond, ◌≡◌, ℕ, ◌+◌, ◌*◌, ◌-◌, ◌/◌, ◌%◌, ◌≤◌, ◌<◌, leb, ltb, Result, Ok, Err, ℤ, pos, ◌-ℤ◌}
+use Rattle.days.specs.declared.refusal.Refusal.{Refusal}
+use Rattle.days.specs.declared.refusal.Refusal.TheVariants.{OutOfRange, NoSuchBody}
 use Rattle.days.specs.Days.{cycle_days, last_day}
 use Rattle.integers.specs.RoundedUp.{rounded_up}
 use Rattle.longitudes.specs.Longitudes.{circle}
@@ -9,6 +11,10 @@ use Rattle.longitudes.specs.declared.Motion.{Motion}
 use Rattle.arms.specs.declared.Steps.{Steps}
 use Rattle.arms.specs.Degrees.{half}
 use Rattle.arms.specs.Orders.{seconds_on}
+
+-- the body's number: refused for the day, then for the body
+unfoldable pub body_on : ℕ → ℕ → Result ℕ Refusal
+body_on day number = cond (leb day last_day) (cond (leb number 8) (Ok number) (Err NoSuchBody)) (Err OutOfRange)
 
 -- a second has so many parts
 abbrev pub parts : ℕ

@@ -5,14 +5,17 @@
 ghost use Rattle.std.specs.Prelude.{◌≡◌, ◌+◌, ◌≤◌, ◌<◌};
 ghost use Rattle.days.specs.Days.{last_day};
 ghost use Rattle.longitudes.specs.Longitudes.{difference_of};
+ghost use Rattle.longitudes.specs.Answers.{body_number};
+ghost use Rattle.std.specs.Result.{result_map_both};
 ghost use Rattle.planets.specs.OnDays.{planet_number};
 ghost use Rattle.arms.specs.Degrees.{degrees_of};
-ghost use Rattle.arms.specs.Orders.{order_number, order_value, carried_out, carried_out_numbered, order_refusal, seconds_on, true_seconds_on, angle_on, rate_on, place_of, follow_of, answer_numbers};
+ghost use Rattle.arms.specs.Orders.{order_number, order_value, carried_out, carried_out_numbered, seconds_on, true_seconds_on, angle_on, rate_on, place_of, follow_of, answer_numbers};
 ghost use Rattle.arms.specs.Ranges.{IsAngle, ExactAngle, IsRate, IsTrueRate};
-ghost use Rattle.arms.specs.Parts.{Reckonable, steps_of, seconds_by, Small, StepsFor, signed_way};
+ghost use Rattle.arms.specs.Parts.{body_on, Reckonable, steps_of, seconds_by, Small, StepsFor, signed_way};
 
-use days::{Day, refusal};
-use longitudes::{CIRCLE, Motion};
+use days::Day;
+use days::refusal::Refusal;
+use longitudes::{Body, CIRCLE, Motion};
 use panchanga::FIRST_EDITION;
 use planets::Planet;
 
@@ -31,31 +34,7 @@ pub struct Arm {
     pub rate: f64,
 }
 
-// An order, or a refusal's number and the order to hold.
-#[derive(Clone, Copy)]
-pub struct OrderAnswer {
-    pub refusal: u32,
-    pub order: Order,
-}
-
-// An arm, or a refusal's number and all zeros.
-#[derive(Clone, Copy)]
-pub struct ArmAnswer {
-    pub refusal: u32,
-    pub arm: Arm,
-}
-
-const NO_ARM: ArmAnswer = ArmAnswer {
-    refusal: refusal::BAD_INPUT,
-    arm: Arm {
-        angle: 0.0,
-        rate: 0.0,
-    },
-};
-
 const HALF: u32 = CIRCLE / 2;
-
-const LAST_BODY: u32 = longitudes::BODIES as u32 - 1;
 
 impl Order {
     // 0 to hold, 1 to go, 2 to run.
@@ -64,8 +43,8 @@ impl Order {
     {
         match self {
             Order::Hold => 0,
-            Order::Go(angle) => 1,
-            Order::Run(rate) => 2,
+            Order::Go(_) => 1,
+            Order::Run(_) => 2,
         }
     }
 
@@ -100,24 +79,15 @@ impl Arm {
     }
 }
 
-fn accepted(arm: Arm) -> ArmAnswer
-    ensures { result ≡ record { refusal = 0; arm = arm } }
-{
-    ArmAnswer {
-        refusal: refusal::NONE,
-        arm,
-    }
-}
-
 // The arm after an order that comes as its number and its value; an order above 2 is refused.
-pub fn carry_out_numbered(arm: Arm, number: u32, value: f64) -> ArmAnswer
+pub fn carry_out_numbered(arm: Arm, number: u32, value: f64) -> Result<Arm, Refusal>
     ensures { result ≡ carried_out_numbered arm number value }
 {
     match number {
-        0 => accepted(arm.carry_out(Order::Hold)),
-        1 => accepted(arm.carry_out(Order::Go(value))),
-        2 => accepted(arm.carry_out(Order::Run(value))),
-        _ => NO_ARM,
+        0 => Ok(arm.carry_out(Order::Hold)),
+        1 => Ok(arm.carry_out(Order::Go(value))),
+        2 => Ok(arm.carry_out(Order::Run(value))),
+        _ => Err(Refusal::BadInput),
     }
 }
 
@@ -169,20 +139,19 @@ fn steps_of(row: Motion) -> Steps
 }
 
 // A case for each body: the compiler knows its steps, and makes a table of them.
-fn steps_for(body: u32) -> Steps
-    requires { body ≤ 8 }
-    ensures { StepsFor body result }
+fn steps_for(body: Body) -> Steps
+    ensures { StepsFor (body_number body) result }
 {
     match body {
-        0 => steps_of(longitudes::SUN),
-        1 => steps_of(longitudes::MOON),
-        2 => steps_of(longitudes::MOON_APOGEE),
-        3 => steps_of(longitudes::MOON_NODE),
-        4 => steps_of(longitudes::MARS),
-        5 => steps_of(longitudes::MERCURY_ANOMALY),
-        6 => steps_of(longitudes::JUPITER),
-        7 => steps_of(longitudes::VENUS_ANOMALY),
-        _ => steps_of(longitudes::SATURN),
+        Body::Sun => steps_of(longitudes::SUN),
+        Body::Moon => steps_of(longitudes::MOON),
+        Body::MoonApogee => steps_of(longitudes::MOON_APOGEE),
+        Body::MoonNode => steps_of(longitudes::MOON_NODE),
+        Body::Mars => steps_of(longitudes::MARS),
+        Body::MercuryAnomaly => steps_of(longitudes::MERCURY_ANOMALY),
+        Body::Jupiter => steps_of(longitudes::JUPITER),
+        Body::VenusAnomaly => steps_of(longitudes::VENUS_ANOMALY),
+        Body::Saturn => steps_of(longitudes::SATURN),
     }
 }
 
@@ -215,49 +184,49 @@ fn forwards_by(steps: Steps, day: u32) -> u32
     longitudes::difference(to, from)
 }
 
-fn angle_on(day: u32, body: u32) -> f64
-    requires { (day ≤ last_day) × (body ≤ 8) }
-    ensures { result ≡ angle_on seconds_on day body }
+fn angle_on(day: u32, body: Body) -> f64
+    requires { day ≤ last_day }
+    ensures { result ≡ angle_on seconds_on day (body_number body) }
 {
     let steps = steps_for(body);
     let at = seconds_by(steps, day);
     degrees(at as i32)
 }
 
-fn rate_on(day: u32, body: u32) -> f64
-    requires { (day < last_day) × (body ≤ 8) }
-    ensures { result ≡ rate_on seconds_on day body }
+fn rate_on(day: u32, body: Body) -> f64
+    requires { day < last_day }
+    ensures { result ≡ rate_on seconds_on day (body_number body) }
 {
     let steps = steps_for(body);
     let forwards = forwards_by(steps, day);
     degrees(signed_way(forwards))
 }
 
-// The planet with a body's number.
-fn planet_of(body: u32) -> Planet
-    requires { (4 ≤ body) × (body ≤ 8) }
-    ensures { body ≡ 4 + planet_number result }
+// The planet that a body is.
+fn planet_of(body: Body) -> Planet
+    requires { 4 ≤ body_number body }
+    ensures { body_number body ≡ 4 + planet_number result }
 {
     match body {
-        4 => Planet::Mars,
-        5 => Planet::Mercury,
-        6 => Planet::Jupiter,
-        7 => Planet::Venus,
+        Body::Mars => Planet::Mars,
+        Body::MercuryAnomaly => Planet::Mercury,
+        Body::Jupiter => Planet::Jupiter,
+        Body::VenusAnomaly => Planet::Venus,
         _ => Planet::Saturn,
     }
 }
 
 // The true whole seconds on a day; the Moon's apogee and node have the mean ones alone.
-fn true_seconds(day: u32, body: u32) -> u32
-    requires { (day ≤ last_day) × (body ≤ 8) }
-    ensures { (result ≡ true_seconds_on day body) × (result < 1296000) }
+fn true_seconds(day: u32, body: Body) -> u32
+    requires { day ≤ last_day }
+    ensures { (result ≡ true_seconds_on day (body_number body)) × (result < 1296000) }
 {
     let pair = Day::at(day);
     match body {
-        0 => panchanga::true_sun(pair).number,
-        1 => panchanga::true_moon(FIRST_EDITION, pair).number,
-        2 | 3 => seconds_by(steps_for(body), day),
-        _ => planets::true_longitude(planet_of(body), pair).number,
+        Body::Sun => panchanga::true_sun(pair).unwrap(),
+        Body::Moon => panchanga::true_moon(FIRST_EDITION, pair).unwrap(),
+        Body::MoonApogee | Body::MoonNode => seconds_by(steps_for(body), day),
+        _ => planets::true_longitude(planet_of(body), pair).unwrap(),
     }
 }
 
@@ -273,17 +242,17 @@ fn forwards_to(from: u32, to: u32) -> u32
     }
 }
 
-fn true_angle_on(day: u32, body: u32) -> f64
-    requires { (day ≤ last_day) × (body ≤ 8) }
-    ensures { result ≡ angle_on true_seconds_on day body }
+fn true_angle_on(day: u32, body: Body) -> f64
+    requires { day ≤ last_day }
+    ensures { result ≡ angle_on true_seconds_on day (body_number body) }
 {
     let at = true_seconds(day, body);
     degrees(at as i32)
 }
 
-fn true_rate_on(day: u32, body: u32) -> f64
-    requires { (day < last_day) × (body ≤ 8) }
-    ensures { result ≡ rate_on true_seconds_on day body }
+fn true_rate_on(day: u32, body: Body) -> f64
+    requires { day < last_day }
+    ensures { result ≡ rate_on true_seconds_on day (body_number body) }
 {
     let from = true_seconds(day, body);
     let to = true_seconds(day + 1, body);
@@ -291,105 +260,74 @@ fn true_rate_on(day: u32, body: u32) -> f64
     degrees(signed_way(forwards))
 }
 
-// The day's refusal, then the body's, or 0.
-fn refusal_on(day: u32, body: u32) -> u32
-    ensures { result ≡ order_refusal day body }
+// The body with a number, to be placed or followed on a day: a day past the last one is refused, then such a number.
+#[tactic(auto, unfolding(crate::specs::Parts::body_on))]
+fn body_on(day: u32, number: u32) -> Result<Body, Refusal>
+    ensures { result_map_both body_number (λ r. r) result ≡ body_on day number }
 {
     if Day::LAST < day {
-        return refusal::OUT_OF_RANGE;
+        return Err(Refusal::OutOfRange);
     }
-    if LAST_BODY < body {
-        return refusal::NO_SUCH_BODY;
+    match number {
+        0 => Ok(Body::Sun),
+        1 => Ok(Body::Moon),
+        2 => Ok(Body::MoonApogee),
+        3 => Ok(Body::MoonNode),
+        4 => Ok(Body::Mars),
+        5 => Ok(Body::MercuryAnomaly),
+        6 => Ok(Body::Jupiter),
+        7 => Ok(Body::VenusAnomaly),
+        8 => Ok(Body::Saturn),
+        _ => Err(Refusal::NoSuchBody),
     }
-    refusal::NONE
 }
 
 // To place a body by its number on a day: the order to go to its angle.
-pub fn place(day: u32, body: u32) -> OrderAnswer
+pub fn place(day: u32, body: u32) -> Result<Order, Refusal>
     ensures meant { answer_numbers result ≡ place_of seconds_on day body }
-    ensures range { IsAngle (order_value result.order) }
-    ensures exact { ExactAngle seconds_on day body (order_value result.order) }
+    ensures range { IsAngle (answer_numbers result).value }
+    ensures exact { ExactAngle seconds_on day body (answer_numbers result).value }
 {
-    let refusal = refusal_on(day, body);
-    if refusal != refusal::NONE {
-        return OrderAnswer {
-            refusal,
-            order: Order::Hold,
-        };
-    }
+    let body = body_on(day, body)?;
     let angle = angle_on(day, body);
-    OrderAnswer {
-        refusal,
-        order: Order::Go(angle),
-    }
+    Ok(Order::Go(angle))
 }
 
 // To follow a body by its number from a day to the next: the order to run at its rate, on the last day to hold.
-pub fn follow(day: u32, body: u32) -> OrderAnswer
+pub fn follow(day: u32, body: u32) -> Result<Order, Refusal>
     ensures meant { answer_numbers result ≡ follow_of seconds_on day body }
-    ensures range { IsRate (order_value result.order) }
+    ensures range { IsRate (answer_numbers result).value }
 {
-    let refusal = refusal_on(day, body);
-    if refusal != refusal::NONE {
-        return OrderAnswer {
-            refusal,
-            order: Order::Hold,
-        };
-    }
+    let body = body_on(day, body)?;
     if day == Day::LAST {
-        return OrderAnswer {
-            refusal,
-            order: Order::Hold,
-        };
+        return Ok(Order::Hold);
     }
     let rate = rate_on(day, body);
-    OrderAnswer {
-        refusal,
-        order: Order::Run(rate),
-    }
+    Ok(Order::Run(rate))
 }
 
 // As `place`, at the true longitude.
-pub fn true_place(day: u32, body: u32) -> OrderAnswer
+// Kept: with the angle's function as a parameter `place` and `true_place` would still be two, of a line each beside the
+// shared one's contract, which has to say what that function gives; so too `follow` and `true_follow`.
+pub fn true_place(day: u32, body: u32) -> Result<Order, Refusal>
     ensures meant { answer_numbers result ≡ place_of true_seconds_on day body }
-    ensures range { IsAngle (order_value result.order) }
-    ensures exact { ExactAngle true_seconds_on day body (order_value result.order) }
+    ensures range { IsAngle (answer_numbers result).value }
+    ensures exact { ExactAngle true_seconds_on day body (answer_numbers result).value }
 {
-    let refusal = refusal_on(day, body);
-    if refusal != refusal::NONE {
-        return OrderAnswer {
-            refusal,
-            order: Order::Hold,
-        };
-    }
+    let body = body_on(day, body)?;
     let angle = true_angle_on(day, body);
-    OrderAnswer {
-        refusal,
-        order: Order::Go(angle),
-    }
+    Ok(Order::Go(angle))
 }
 
 // As `follow`, by the true longitudes: backwards for a planet that goes backwards.
-pub fn true_follow(day: u32, body: u32) -> OrderAnswer
+pub fn true_follow(day: u32, body: u32) -> Result<Order, Refusal>
     ensures meant { answer_numbers result ≡ follow_of true_seconds_on day body }
-    ensures range { IsTrueRate (order_value result.order) }
+    ensures range { IsTrueRate (answer_numbers result).value }
 {
-    let refusal = refusal_on(day, body);
-    if refusal != refusal::NONE {
-        return OrderAnswer {
-            refusal,
-            order: Order::Hold,
-        };
-    }
+    let body = body_on(day, body)?;
     if Day::LAST == day {
-        return OrderAnswer {
-            refusal,
-            order: Order::Hold,
-        };
+        return Ok(Order::Hold);
     }
     let rate = true_rate_on(day, body);
-    OrderAnswer {
-        refusal,
-        order: Order::Run(rate),
-    }
+    Ok(Order::Run(rate))
 }

@@ -9,6 +9,8 @@ use native.Mathlib.Decide.{dec_le}
 use lib.Dec.{leb, ltb}
 use lib.ListN.{length, take, drop}
 use borrow.Author.Tests.{le-leb, lt-leb, lt-ltb, le-ltb, eq-eqb, ne_eqb}
+use Rattle.std.specs.Prelude.{Ok, Err}
+use Rattle.days.specs.declared.refusal.Refusal.TheVariants.{BadLength, BadChecksum, BadIndex, NotZero, BadDay}
 use Rattle.entries.specs.Entries.{entry_day}
 use Rattle.blocks.specs.Blocks.{block_of, is_block, block_after, checksum, days_in, all_zero, days_hold, checksum_holds, block_refusal}
 
@@ -62,35 +64,35 @@ pub days-are : (b : List ℕ) (day count index n : ℕ) (t v : Bool) → n ≡ d
 days-are b day count index n t v d e f = sym (e ∙ ap (days_hold b 0 day) d) ∙ f
 
 module _ (first count index : ℕ) (b : List ℕ) where
-  pub short-block : length b < 512 → 9 ≡ block_refusal first count index b
+  pub short-block : length b < 512 → Err BadLength ≡ block_refusal first count index b
   unfolding block_refusal
   short-block h = rw (lt-leb 512 (length b) h)
 
   module _ (h : 512 ≤ length b) where
-    pub bad-checksum : (entry_day b 127 ≡ checksum (take 508 b) → ⊥) → 10 ≡ block_refusal first count index b
+    pub bad-checksum : (entry_day b 127 ≡ checksum (take 508 b) → ⊥) → Err BadChecksum ≡ block_refusal first count index b
     unfolding block_refusal checksum_holds
     bad-checksum k = rw (le-leb 512 (length b) h, ne_eqb _ _ k)
 
     module _ (k : entry_day b 127 ≡ checksum (take 508 b)) where
-      pub bad-index : (entry_day b 0 ≡ index → ⊥) → 11 ≡ block_refusal first count index b
+      pub bad-index : (entry_day b 0 ≡ index → ⊥) → Err BadIndex ≡ block_refusal first count index b
       unfolding block_refusal checksum_holds
       bad-index i = rw (le-leb 512 (length b) h, eq-eqb _ _ k, ne_eqb _ _ i)
 
       module _ (i : entry_day b 0 ≡ index) where
-        pub bad-count : (entry_day b 1 ≡ count → ⊥) → 11 ≡ block_refusal first count index b
+        pub bad-count : (entry_day b 1 ≡ count → ⊥) → Err BadIndex ≡ block_refusal first count index b
         unfolding block_refusal checksum_holds
         bad-count n = rw (le-leb 512 (length b) h, eq-eqb _ _ k, eq-eqb _ _ i, ne_eqb _ _ n)
 
         module _ (n : entry_day b 1 ≡ count) where
-          pub not_zeros : all_zero (take (508 - (8 + 52 * days_in count index)) (drop (8 + 52 * days_in count index) b)) ≡ false → 12 ≡ block_refusal first count index b
+          pub not_zeros : all_zero (take (508 - (8 + 52 * days_in count index)) (drop (8 + 52 * days_in count index) b)) ≡ false → Err NotZero ≡ block_refusal first count index b
           unfolding block_refusal checksum_holds
           not_zeros z = rw (le-leb 512 (length b) h, eq-eqb _ _ k, eq-eqb _ _ i, eq-eqb _ _ n, z)
 
           module _ (z : all_zero (take (508 - (8 + 52 * days_in count index)) (drop (8 + 52 * days_in count index) b)) ≡ true) where
-            pub bad-days : days_hold b 0 (first + 9 * index) (days_in count index) ≡ false → 13 ≡ block_refusal first count index b
+            pub bad-days : days_hold b 0 (first + 9 * index) (days_in count index) ≡ false → Err BadDay ≡ block_refusal first count index b
             unfolding block_refusal checksum_holds
             bad-days d = rw (le-leb 512 (length b) h, eq-eqb _ _ k, eq-eqb _ _ i, eq-eqb _ _ n, z, d)
 
-            pub good-block : days_hold b 0 (first + 9 * index) (days_in count index) ≡ true → 0 ≡ block_refusal first count index b
+            pub good-block : days_hold b 0 (first + 9 * index) (days_in count index) ≡ true → Ok tt ≡ block_refusal first count index b
             unfolding block_refusal checksum_holds
             good-block d = rw (le-leb 512 (length b) h, eq-eqb _ _ k, eq-eqb _ _ i, eq-eqb _ _ n, z, d)

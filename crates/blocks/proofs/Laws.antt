@@ -13,6 +13,9 @@ use lib.Dec.{leb, eqb}
 use lib.ListN.{length, get_or, take, drop, set, replicate, take-append-drop, length-append, length-drop, length-replicate, replicate-append-replicate, get_or-append}
 use lib.Seq.{take-add, take_all, drop-drop, length-take-le, take-set-le, take-set-lt, get_or-take, get_or-set_same, get_or-set_other, get_or-append_seam, get_or-append-add, get_or_at, take_at, drop_at}
 use borrow.Author.Tests.{leb-true, eqb-true, eq-eqb, ne_eqb, le-leb}
+use Rattle.std.specs.Prelude.{Result, Ok, Err}
+use Rattle.days.specs.declared.refusal.Refusal.{Refusal}
+use Rattle.days.specs.declared.refusal.Refusal.TheVariants.{BadLength, BadChecksum, BadIndex, NotZero, BadDay}
 use Rattle.days.specs.Days.{last_day, days_from, pair_at}
 use Rattle.entries.specs.Entries.{entry, entries, entry_day}
 use Rattle.blocks.specs.Blocks.{elements_of, day_numbers, days_bytes, days_in, weighted, checksum, front, sealed, block_of, all_zero, checksum_holds, has_numbers, day_holds, days_hold, block_refusal}
@@ -39,7 +42,7 @@ pub record Sound (first count index : ℕ) (b : List ℕ) : Type 0 where
   pub zeros : all_zero (take (508 - (8 + 52 * days_in count index)) (drop (8 + 52 * days_in count index) b)) ≡ true
   pub held : days_hold b 0 (first + 9 * index) (days_in count index) ≡ true
 
-pub sound : (first count index : ℕ) (b : List ℕ) → block_refusal first count index b ≡ 0 → Sound first count index b
+pub sound : (first count index : ℕ) (b : List ℕ) → block_refusal first count index b ≡ Ok tt → Sound first count index b
 unfolding block_refusal
 sound first count index b e =
     go
@@ -62,16 +65,16 @@ sound first count index b e =
         (eqb (entry_day b 0) index && eqb (entry_day b 1) count) ≡ i →
         all_zero (take (508 - (8 + 52 * days_in count index)) (drop (8 + 52 * days_in count index) b)) ≡ z →
         days_hold b 0 (first + 9 * index) (days_in count index) ≡ d →
-        ◌≡◌ {A = ℕ} (cond a (cond c (cond i (cond z (cond d 0 13) 12) 11) 10) 9) 0 →
+        ◌≡◌ {A = Result (Unit {0}) Refusal} (cond a (cond c (cond i (cond z (cond d (Ok tt) (Err BadDay)) (Err NotZero)) (Err BadIndex)) (Err BadChecksum)) (Err BadLength)) (Ok tt) →
         Sound first count index b
     go true true true true true h k i z d e =
         let n = both (eqb (entry_day b 0) index) (eqb (entry_day b 1) count) i in
         record { whole = leb-true _ _ h; summed = k; index_is = eqb-true _ _ n.0; count-is = eqb-true _ _ n.1; zeros = z; held = d }
-    go true true true true false h k i z d e = absurd (omega arith)
-    go true true true false t h k i z d e = absurd (omega arith)
-    go true true false t u h k i z d e = absurd (omega arith)
-    go true false t u v h k i z d e = absurd (omega arith)
-    go false t u v w h k i z d e = absurd (omega arith)
+    go true true true true false h k i z d e = absurd (cc)
+    go true true true false t h k i z d e = absurd (cc)
+    go true true false t u h k i z d e = absurd (cc)
+    go true false t u v h k i z d e = absurd (cc)
+    go false t u v w h k i z d e = absurd (cc)
 
 -- the days that places hold are days
 pub held-days : (b : List ℕ) (j d n : ℕ) → days_hold b j d n ≡ true → 1 ≤ n → d + n ≤ 401600
@@ -395,7 +398,7 @@ module _ (first count index : ℕ) (f : first + count ≤ 401600) (i : 9 * index
       ∙ days-put (index ∷ count ∷ []) (replicate (127 - (2 + 13 * days_in count index)) 0) (entry (checksum (front first count index))) 0 (first + 9 * index) (days_in count index) refl
       (days-fit first count index (days_in count index) refl i f)
 
-  pub put-sound : block_refusal first count index (block_of first count index) ≡ 0
+  pub put-sound : block_refusal first count index (block_of first count index) ≡ Ok tt
   put-sound =
       sym
       (good-block first count index (block_of first count index)

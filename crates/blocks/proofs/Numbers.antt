@@ -11,15 +11,16 @@ use Rattle.longitudes.proofs.Table.{nine-long}
 use Rattle.panchanga.specs.TrueLongitudes.{is_edition}
 use Rattle.panchanga.proofs.Bounds.{tithi-small, nakshatra-small, yoga-small, karana-range}
 use Rattle.records.specs.declared.DayRecord.{DayRecord}
-use Rattle.records.specs.declared.RecordAnswer.{RecordAnswer}
+use Rattle.std.specs.Prelude.{Ok}
 use Rattle.records.specs.Records.{record_on, record_of}
 use Rattle.blocks.specs.Blocks.{elements_of, day_numbers}
 
-pub record-found : (n : ℕ) (a : RecordAnswer) → a ≡ record_of 1 n → n ≤ last_day → a.day_record ≡ record_on 1 n
+pub record-there : (n : ℕ) → n ≤ last_day → record_of 1 n ≡ Ok (record_on 1 n)
 unfolding record_of is_edition
-record-found n a e h =
-    let t : record_of 1 n ≡ record { refusal = 0; day_record = record_on 1 n } = rw (le-leb n last_day h) in
-    ap (λ (x : RecordAnswer). x.day_record) (e ∙ t)
+record-there n h = rw (le-leb n last_day h)
+
+record-found : (n : ℕ) (a : DayRecord) → Ok a ≡ record_of 1 n → n ≤ last_day → a ≡ record_on 1 n
+record-found n a e h = cc (record-there n h)
 
 pub record Small (r : DayRecord) : Type 0 where
   pub tithi : r.tithi < 30
@@ -31,7 +32,7 @@ pub small-on : (n : ℕ) → Small (record_on 1 n)
 unfolding record_on
 small-on n = record { tithi = tithi-small 1 (pair_at n); nakshatra = nakshatra-small 1 (pair_at n); yoga = yoga-small 1 (pair_at n); karana = (karana-range 1 (pair_at n)).1 }
 
-pub small-found : (n : ℕ) (a : RecordAnswer) → a ≡ record_of 1 n → n ≤ last_day → Small a.day_record
+pub small-found : (n : ℕ) (a : DayRecord) → Ok a ≡ record_of 1 n → n ≤ last_day → Small a
 small-found n a e h = rw (record-found n a e h) (small-on n)
 
 nine-laid : (xs rest : List ℕ) → length xs ≡ 9 → get_or xs 0 0 ∷ get_or xs 1 0 ∷ get_or xs 2 0 ∷ get_or xs 3 0 ∷ get_or xs 4 0 ∷ get_or xs 5 0 ∷ get_or xs 6 0 ∷ get_or xs 7 0 ∷ get_or xs 8 0 ∷ rest ≡ xs ++ rest
@@ -69,7 +70,7 @@ pub longitudes-long : (n : ℕ) → length (record_on 1 n).longitudes ≡ 9
 unfolding record_on
 longitudes-long n = nine-long (pair_at n)
 
-pub numbers-found : (n : ℕ) (a : RecordAnswer) → a ≡ record_of 1 n → n ≤ last_day → laid a.day_record ≡ day_numbers n
+pub numbers-found : (n : ℕ) (a : DayRecord) → Ok a ≡ record_of 1 n → n ≤ last_day → laid a ≡ day_numbers n
 unfolding day_numbers elements_of
 numbers-found n a e h =
     let r : DayRecord = record_on 1 n in

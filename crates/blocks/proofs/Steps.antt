@@ -12,13 +12,13 @@ use lib.Dec.{eqb}
 use lib.ListN.{length, get_or, take, drop, replicate, length-append, drop_of_length-le}
 use borrow.Author.Tests.{eq-eqb, ne_eqb, le-leb, lt-leb, lt-ltb}
 use lib.Seq.{drop-cons, take-suc, length-take-le}
-use Rattle.days.specs.Days.{last_day, days_from, pair_at, the_number}
-use Rattle.days.specs.declared.NumberAnswer.{NumberAnswer}
+use Rattle.std.specs.Prelude.{Ok}
+use Rattle.days.specs.Days.{last_day, days_from, pair_at}
 use Rattle.entries.specs.Entries.{capacity, entry_day, entry_at, with_entry, with_entries_from}
 use Rattle.entries.proofs.Putting.{put-append}
 use Rattle.longitudes.proofs.Table.{nine-long}
 use Rattle.records.specs.Records.{record_on}
-use Rattle.blocks.specs.Blocks.{weighted, checksum, day_numbers, has_numbers, day_holds, days_hold, all_zero}
+use Rattle.blocks.specs.Blocks.{weighted, checksum, day_numbers, has_numbers, day_holds, days_hold}
 use Rattle.blocks.specs.Parts.{numbers_of}
 
 -- numbers of a list, from its number i on, put at entry k + i
@@ -95,23 +95,6 @@ sum-none (x ∷ b) = refl
 -- a product of a byte and a position
 pub product_small : (x p : ℕ) → x < 256 → p ≤ 508 → x * p ≤ 129540
 product_small x p h k = mul-le-mul {n₂ = 255} {m₂ = 508} (omega arith) k
-
--- a zero byte more, and one that is not zero
-zeros-here : (b : List ℕ) (i n : ℕ) → i < n → n ≤ length b → all_zero (take (n - i) (drop i b)) ≡ (eqb (get_or b i 0) 0 && all_zero (take (n - (i + 1)) (drop (i + 1) b)))
-unfolding all_zero
-zeros-here b i n h k =
-    let one : n - i ≡ suc (n - (i + 1)) = omega arith in
-    rw (one, drop-cons b i 0 (omega arith), add-one i)
-
-pub zeros-next : (b : List ℕ) (i n : ℕ) → i < n → n ≤ length b → get_or b i 0 ≡ 0 → all_zero (take (n - (i + 1)) (drop (i + 1) b)) ≡ all_zero (take (n - i) (drop i b))
-zeros-next b i n h k e = sym (zeros-here b i n h k ∙ rw (eq-eqb _ _ e))
-
-pub zeros-not : (b : List ℕ) (i n : ℕ) → i < n → n ≤ length b → (get_or b i 0 ≡ 0 → ⊥) → all_zero (take (n - i) (drop i b)) ≡ false
-zeros-not b i n h k e = zeros-here b i n h k ∙ rw (ne_eqb _ _ e)
-
-pub zeros-none : (b : List ℕ) (i n : ℕ) → n ≤ i → all_zero (take (n - i) (drop i b)) ≡ true
-unfolding all_zero
-zeros-none b i n h = let z : n - i ≡ 0 = omega arith in rw z
 
 -- a day more that is held, and one that is not
 days-here : (b : List ℕ) (day i n : ℕ) → i < n → days_hold b i (day + i) (n - i) ≡ (day_holds b i (day + i) && days_hold b (i + 1) (day + (i + 1)) (n - (i + 1)))
@@ -204,6 +187,6 @@ pub sum-all : (b : List ℕ) (i s n : ℕ) → i ≤ n → n ≤ i → s ≡ che
 sum-all b i s n h k e = let at : i ≡ n = omega arith in e ∙ ap (λ (j : ℕ). checksum (take j b)) at
 
 -- the number of an entry that is there
-pub entry_found : (b : List ℕ) (k : ℕ) (a : NumberAnswer) → 4 * k + 4 ≤ length b → a ≡ entry_at b k → a.number ≡ entry_day b k
+pub entry_found : (b : List ℕ) (k : ℕ) → 4 * k + 4 ≤ length b → entry_at b k ≡ Ok (entry_day b k)
 unfolding entry_at
-entry_found b k a h e = let t : entry_at b k ≡ the_number (entry_day b k) = rw (lt-ltb k (capacity b) (omega arith)) in ap (λ (x : NumberAnswer). x.number) (e ∙ t)
+entry_found b k h = rw (lt-ltb k (capacity b) (omega arith))

@@ -1,8 +1,9 @@
 -- A block of an almanac file: paper 02's 512 bytes, for writing and for reading.
 -- Assumes nothing.
-use Rattle.std.specs.Prelude.{Bool, true, cond, ◌&&◌, List, [], ◌∷◌, ◌++◌, ℕ, zero, suc, ◌+◌, ◌-◌, ◌*◌, min, leb, ltb, eqb, length, take, drop, replicate}
+use Rattle.std.specs.Prelude.{Bool, true, cond, ◌&&◌, List, [], ◌∷◌, ◌++◌, ℕ, zero, suc, ◌+◌, ◌-◌, ◌*◌, min, leb, ltb, eqb, length, take, drop, replicate, Result, Ok, Err}
 use Rattle.days.specs.Days.{last_day, days_from}
-use Rattle.days.specs.Refusals.{accepted, bad_length, bad_checksum, bad_index, not_zero, bad_day}
+use Rattle.days.specs.declared.refusal.Refusal.{Refusal}
+use Rattle.days.specs.declared.refusal.Refusal.TheVariants.{BadLength, BadChecksum, BadIndex, NotZero, BadDay}
 use Rattle.entries.specs.Entries.{entry, entries, entry_day}
 use Rattle.panchanga.specs.TrueLongitudes.{first_edition}
 use Rattle.records.specs.declared.DayRecord.{DayRecord}
@@ -91,8 +92,8 @@ unfoldable pub days_hold : List ℕ → ℕ → ℕ → ℕ → Bool
 days_hold b place n zero = true
 days_hold b place n (suc m) = day_holds b place n && days_hold b (suc place) (suc n) m
 
--- THE REFUSAL of a block that should be block `index` of the file of `count` days from `first` on
-unfoldable pub block_refusal : ℕ → ℕ → ℕ → List ℕ → ℕ
+-- THE REFUSAL, if any, of a block that should be block `index` of the file of `count` days from `first` on
+unfoldable pub block_refusal : ℕ → ℕ → ℕ → List ℕ → Result (Unit {0}) Refusal
 block_refusal first count index b =
     let days : ℕ = days_in count index in
     let used : ℕ = 8 + 52 * days in
@@ -100,8 +101,8 @@ block_refusal first count index b =
     (cond (checksum_holds b)
     (cond (eqb (entry_day b 0) index && eqb (entry_day b 1) count)
     (cond (all_zero (take (508 - used) (drop used b)))
-    (cond (days_hold b 0 (first + 9 * index) days) accepted bad_day)
-    not_zero)
-    bad_index)
-    bad_checksum)
-    bad_length
+    (cond (days_hold b 0 (first + 9 * index) days) (Ok tt) (Err BadDay))
+    (Err NotZero))
+    (Err BadIndex))
+    (Err BadChecksum))
+    (Err BadLength)

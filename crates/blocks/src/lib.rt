@@ -4,11 +4,12 @@
 
 ghost use Rattle.std.specs.Prelude.{◌≡◌, ◌+◌, ◌-◌, ◌*◌, ◌≤◌, ◌<◌, length, take, drop, replicate};
 ghost use Rattle.days.specs.Days.{last_day, days_from};
-ghost use Rattle.entries.specs.Entries.{with_entries_from};
+ghost use Rattle.entries.specs.Entries.{entry_day, with_entries_from};
 ghost use Rattle.blocks.specs.Blocks.{days_in, checksum, day_numbers, has_numbers, all_zero, days_hold, block_refusal, block_after};
 ghost use Rattle.blocks.specs.Parts.{numbers_of};
 
-use days::{Day, refusal};
+use days::Day;
+use days::refusal::Refusal;
 
 pub const BLOCK_BYTES: usize = 512;
 
@@ -51,8 +52,7 @@ fn day_numbers(day: u32) -> [u32; DAY_NUMBERS]
     requires { day ≤ last_day }
     ensures { result ≡ day_numbers day }
 {
-    let answer = records::record_of(panchanga::FIRST_EDITION, day);
-    let filled = answer.day_record;
+    let filled = records::record_of(panchanga::FIRST_EDITION, day).unwrap();
     let means = filled.longitudes;
     let low = filled.tithi + 256 * filled.nakshatra;
     let high = filled.yoga + 256 * filled.karana;
@@ -77,10 +77,8 @@ fn put_numbers(block: &mut [u8], from: usize, numbers: [u32; DAY_NUMBERS])
     requires { (from ≤ 106) × (length numbers ≡ 13) }
     ensures { block.new ≡ with_entries_from block.old from numbers }
 {
-    let mut i = 0usize;
-    while i < DAY_NUMBERS {
-        entries::put_entry(block, from + i, numbers[i]);
-        i += 1;
+    for (i, number) in numbers.iter().enumerate() {
+        entries::put_entry(block, from + i, *number);
     }
 }
 
@@ -88,11 +86,9 @@ fn put_days(block: &mut [u8], day: u32, days: u32)
     requires { (day + days ≤ 401600) × (days ≤ 9) }
     ensures { block.new ≡ with_entries_from block.old 2 (numbers_of (days_from day days)) }
 {
-    let mut place = 0;
-    while place < days {
+    for place in 0..days {
         let numbers = day_numbers(day + place);
         put_numbers(block, DAYS + DAY_NUMBERS * place as usize, numbers);
-        place += 1;
     }
 }
 
@@ -101,10 +97,8 @@ fn put_zeros(block: &mut [u8], from: usize)
     requires { from ≤ 127 }
     ensures { block.new ≡ with_entries_from block.old from (replicate (127 - from) 0) }
 {
-    let mut i = from;
-    while i < CHECKSUM {
+    for i in from..CHECKSUM {
         entries::put_entry(block, i, 0);
-        i += 1;
     }
 }
 
@@ -114,19 +108,11 @@ fn sum_of(block: &[u8]) -> u32
     ensures { result ≡ checksum (take 508 block.now) }
 {
     let mut sum: u32 = 0;
-    let mut i = 0usize;
-    while i < SUMMED {
+    for (i, byte) in block[..SUMMED].iter().enumerate() {
         let position = i as u32 + 1;
-        sum += wide(block[i]) * position;
-        i += 1;
+        sum += u32::from(*byte) * position;
     }
     sum
-}
-
-fn wide(byte: u8) -> u32
-    ensures { (result ≡ byte) × (result < 256) }
-{
-    byte as u32
 }
 
 // Puts block `index` of the file of `count` days from `first` on at the front of the bytes. Where there is no such
@@ -155,17 +141,23 @@ pub fn put_block(block: &mut [u8], first: u32, count: u32, index: u32)
     entries::put_entry(block, CHECKSUM, sum);
 }
 
+// A number of a block that has it.
+fn number_at(block: &[u8], index: usize) -> u32
+    requires { 4 * index + 4 ≤ length block.now }
+    ensures { result ≡ entry_day block.now index }
+{
+    entries::entry_at(block, index).unwrap()
+}
+
 // Whether a day's place holds these numbers.
 fn numbers_hold(block: &[u8], from: usize, numbers: [u32; DAY_NUMBERS]) -> bool
     requires { (from ≤ 106) × ((length numbers ≡ 13) × (512 ≤ length block.now)) }
     ensures { result ≡ has_numbers block.now from numbers }
 {
-    let mut i = 0usize;
-    while i < DAY_NUMBERS {
-        if entries::entry_at(block, from + i).number != numbers[i] {
+    for (i, number) in numbers.iter().enumerate() {
+        if number_at(block, from + i) != *number {
             return false;
         }
-        i += 1;
     }
     true
 }
@@ -175,8 +167,7 @@ fn days_hold(block: &[u8], day: u64, days: u32) -> bool
     requires { (512 ≤ length block.now) × ((day < 1099511627776) × (days ≤ 9)) }
     ensures { result ≡ days_hold block.now 0 day days }
 {
-    let mut place = 0;
-    while place < days {
+    for place in 0..days {
         let due = day + place as u64;
         if (Day::LAST as u64) < due {
             return false;
@@ -185,7 +176,6 @@ fn days_hold(block: &[u8], day: u64, days: u32) -> bool
         if !numbers_hold(block, DAYS + DAY_NUMBERS * place as usize, numbers) {
             return false;
         }
-        place += 1;
     }
     true
 }
@@ -195,38 +185,36 @@ fn zeros_hold(block: &[u8], from: usize) -> bool
     requires { (512 ≤ length block.now) × (from ≤ 508) }
     ensures { result ≡ all_zero (take (508 - from) (drop from block.now)) }
 {
-    let mut i = from;
-    while i < SUMMED {
-        if block[i] != 0 {
+    for byte in &block[from..SUMMED] {
+        if *byte != 0 {
             return false;
         }
-        i += 1;
     }
     true
 }
 
-// Why a block is not block `index` of a file of `count` days from `first` on, or 0.
-pub fn check_block(block: &[u8], first: u32, count: u32, index: u32) -> u32
+// Refuses what is not block `index` of a file of `count` days from `first` on.
+pub fn check_block(block: &[u8], first: u32, count: u32, index: u32) -> Result<(), Refusal>
     ensures { result ≡ block_refusal first count index block.now }
 {
     if block.len() < BLOCK_BYTES {
-        return refusal::BAD_LENGTH;
+        return Err(Refusal::BadLength);
     }
-    if entries::entry_at(block, CHECKSUM).number != sum_of(block) {
-        return refusal::BAD_CHECKSUM;
+    if number_at(block, CHECKSUM) != sum_of(block) {
+        return Err(Refusal::BadChecksum);
     }
-    if entries::entry_at(block, INDEX).number != index {
-        return refusal::BAD_INDEX;
+    if number_at(block, INDEX) != index {
+        return Err(Refusal::BadIndex);
     }
-    if entries::entry_at(block, COUNT).number != count {
-        return refusal::BAD_INDEX;
+    if number_at(block, COUNT) != count {
+        return Err(Refusal::BadIndex);
     }
     let days = days_in(count, index);
     if !zeros_hold(block, 8 + 52 * days as usize) {
-        return refusal::NOT_ZERO;
+        return Err(Refusal::NotZero);
     }
     if !days_hold(block, first as u64 + BLOCK_DAYS as u64 * index as u64, days) {
-        return refusal::BAD_DAY;
+        return Err(Refusal::BadDay);
     }
-    refusal::NONE
+    Ok(())
 }

@@ -1,2 +1,3 @@
 mod Truth
+mod Told
 mod Iso

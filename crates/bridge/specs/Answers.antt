@@ -1,22 +1,24 @@
 -- What the bridge hands back: the library's own answers for a query of 436 bytes, and refusal 3 for bytes of another
 -- length.
 -- Assumes nothing.
-use Rattle.std.specs.Prelude.{cond, List, [], ◌∷◌, ◌++◌, ℕ, eqb, length, get_or}
-use Rattle.days.specs.Refusals.{bad_input}
+use Rattle.std.specs.Prelude.{cond, List, [], ◌∷◌, ◌++◌, ℕ, eqb, length, get_or, Result}
+use Rattle.days.specs.declared.refusal.Refusal.{Refusal}
+use Rattle.days.specs.Refusals.{bad_input, and_then}
 use Rattle.entries.specs.Entries.{capacity}
 use Rattle.older_motions.specs.declared.Farthest.{Farthest}
 use Rattle.older_motions.specs.declared.Drifts.{Drifts}
 use Rattle.older_motions.specs.Drifts.{nothing as no_drift}
 use Rattle.query.specs.declared.Arc.{Arc}
 use Rattle.query.specs.declared.BodyArcs.{BodyArcs}
+use Rattle.query.specs.declared.Query.{Query}
 use Rattle.query.specs.Query.{refusal_of}
 use Rattle.reasons.specs.Conditions.{Wanted, nothing, bound, any_of, mean_arcs, true_arcs}
 use Rattle.reasons.specs.Reasons.{Numbers, no_answer, why_of}
 use Rattle.search.specs.declared.Examined.{Examined}
-use Rattle.search.specs.Look.{not_examined, examined_of}
+use Rattle.search.specs.Look.{examined_of}
 use Rattle.search.specs.Days.{matching_days, visited_days}
 use Rattle.search.specs.Search.{result_of, unless_refused, list_after, first_listed}
-use Rattle.bridge.specs.Bytes.{query_bytes, query_from}
+use Rattle.bridge.specs.Bytes.{query_bytes, query_from, query_read}
 
 unfoldable pub bridge_result : List ℕ → List ℕ → ℕ
 bridge_result bytes list = cond (eqb (length bytes) query_bytes) (result_of (query_from bytes) (capacity list)) bad_input
@@ -39,8 +41,8 @@ unfoldable pub bridge_looked : List ℕ → ℕ
 bridge_looked bytes = cond (eqb (length bytes) query_bytes) (unless_refused (query_from bytes) (length (visited_days (query_from bytes)))) 0
 
 -- the look at a day
-unfoldable pub bridge_examined : List ℕ → ℕ → Examined
-bridge_examined bytes day = cond (eqb (length bytes) query_bytes) (examined_of (query_from bytes) day) (not_examined bad_input)
+abbrev pub bridge_examined : List ℕ → ℕ → Result Examined Refusal
+bridge_examined bytes day = and_then (query_read bytes) (λ (q : Query). examined_of q day)
 
 -- why a day is not in the list
 unfoldable pub bridge_why : List ℕ → ℕ → Numbers

@@ -1,11 +1,14 @@
 -- A query as bytes: 109 numbers, as the entries of a list are.
 -- Assumes nothing.
-use Rattle.std.specs.Prelude.{Bool, not, List, [], ◌∷◌, map, ℕ, ◌+◌, eqb}
+use Rattle.std.specs.Prelude.{Bool, cond, not, List, [], ◌∷◌, map, ℕ, ◌+◌, eqb, length, Result, Ok, Err}
 use Rattle.query.specs.declared.Asked.{Asked}
 use Rattle.query.specs.declared.Weekdays.{Weekdays}
 use Rattle.query.specs.declared.Arc.{Arc}
 use Rattle.query.specs.declared.BodyArcs.{BodyArcs}
 use Rattle.query.specs.declared.Query.{Query}
+use Rattle.std.specs.Result.{result_unwrap_or}
+use Rattle.days.specs.declared.refusal.Refusal.{Refusal}
+use Rattle.days.specs.declared.refusal.Refusal.TheVariants.{BadInput}
 use Rattle.entries.specs.Entries.{entry_at}
 
 abbrev pub query_bytes : ℕ
@@ -13,7 +16,7 @@ query_bytes = 436
 
 -- number k of the bytes
 abbrev pub number_from : List ℕ → ℕ → ℕ
-number_from bytes k = (entry_at bytes k).number
+number_from bytes k = result_unwrap_or (entry_at bytes k) 0
 
 -- given is any number but 0
 abbrev pub given_from : List ℕ → ℕ → Bool
@@ -59,3 +62,7 @@ query_from bytes =
       arcs = arcs_from bytes;
       true_arcs = true_arcs_from bytes;
     }
+
+-- bytes of another length are refused
+unfoldable pub query_read : List ℕ → Result Query Refusal
+query_read bytes = cond (eqb (length bytes) query_bytes) (Ok (query_from bytes)) (Err BadInput)

@@ -3,6 +3,5 @@ pub mod Answers
 pub mod Bodies
 pub mod Elements
 pub mod Numbers
-pub mod Pieces
 pub mod Iso
 pub mod Months

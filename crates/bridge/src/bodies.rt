@@ -1,71 +1,46 @@
 // A body's mean longitude as C calls, each number of its answer by a call of its own.
-ghost use Rattle.std.specs.Prelude.{◌≡◌, ◌≤◌};
-ghost use Rattle.bridge.specs.Bodies.{body_from, bridge_longitude};
-ghost use Rattle.bridge.specs.Numbers.{BridgeLongitude};
+ghost use Rattle.std.specs.Prelude.{◌≡◌};
+ghost use Rattle.days.specs.Refusals.{result_number, part_or_zero};
+ghost use Rattle.bridge.specs.Bodies.{bridge_longitude};
 
-use days::{Day, refusal};
-use longitudes::{Body, MeanLongitude};
+use days::Day;
+use days::refusal::{Refusal, result_number};
+use longitudes::MeanLongitude;
 
-const LAST_BODY: u32 = longitudes::BODIES as u32 - 1;
-
-const NO_BODY: MeanLongitude = MeanLongitude {
-    refusal: refusal::NO_SUCH_BODY,
-    seconds: 0,
-    remainder: 0,
-    divisor: 0,
-};
-
-fn body_of(number: u32) -> Body
-    requires { number ≤ 8 }
-    ensures { result ≡ body_from number }
+fn longitude(body: u32, day: u32) -> Result<MeanLongitude, Refusal>
+    ensures { result ≡ bridge_longitude body day }
 {
-    match number {
-        0 => Body::Sun,
-        1 => Body::Moon,
-        2 => Body::MoonApogee,
-        3 => Body::MoonNode,
-        4 => Body::Mars,
-        5 => Body::MercuryAnomaly,
-        6 => Body::Jupiter,
-        7 => Body::VenusAnomaly,
-        _ => Body::Saturn,
+    match longitudes::IN_ORDER.get(body as usize) {
+        Some(body) => longitudes::mean_longitude(*body, Day::at(day)),
+        None => Err(Refusal::NoSuchBody),
     }
-}
-
-fn longitude(body: u32, day: u32) -> MeanLongitude
-    ensures { BridgeLongitude (bridge_longitude body day) result }
-{
-    if LAST_BODY < body {
-        return NO_BODY;
-    }
-    longitudes::mean_longitude(body_of(body), Day::at(day))
 }
 
 #[unsafe(no_mangle)]
 pub extern "C" fn bridge_longitude_result(body: u32, day: u32) -> u32
-    ensures { result ≡ (bridge_longitude body day).refusal }
+    ensures { result ≡ result_number (bridge_longitude body day) }
 {
-    longitude(body, day).refusal
+    result_number(longitude(body, day))
 }
 
 #[unsafe(no_mangle)]
 pub extern "C" fn bridge_longitude_seconds(body: u32, day: u32) -> u32
-    ensures { result ≡ (bridge_longitude body day).seconds }
+    ensures { result ≡ part_or_zero (λ found. found.seconds) (bridge_longitude body day) }
 {
-    longitude(body, day).seconds
+    longitude(body, day).map_or(0, |found| found.seconds)
 }
 
 // What was left over of the exact longitude, and its divisor.
 #[unsafe(no_mangle)]
 pub extern "C" fn bridge_longitude_remainder(body: u32, day: u32) -> u32
-    ensures { result ≡ (bridge_longitude body day).remainder }
+    ensures { result ≡ part_or_zero (λ found. found.remainder) (bridge_longitude body day) }
 {
-    longitude(body, day).remainder
+    longitude(body, day).map_or(0, |found| found.remainder)
 }
 
 #[unsafe(no_mangle)]
 pub extern "C" fn bridge_longitude_divisor(body: u32, day: u32) -> u32
-    ensures { result ≡ (bridge_longitude body day).divisor }
+    ensures { result ≡ part_or_zero (λ found. found.divisor) (bridge_longitude body day) }
 {
-    longitude(body, day).divisor
+    longitude(body, day).map_or(0, |found| found.divisor)
 }

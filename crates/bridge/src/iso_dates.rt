@@ -3,10 +3,11 @@
 ghost use Rattle.std.specs.Prelude.{◌≡◌, ◌<◌, length};
 ghost use Rattle.iso.specs.Calendar.{iso_day_of, iso_date_of};
 ghost use Rattle.date_lines.specs.Texts.{list_answer, list_after, text_answer, text_after};
-ghost use Rattle.bridge.specs.Iso.{in_one, day_in_one, date_in_one, length_in_one};
+ghost use Rattle.bridge.specs.Iso.{in_one, digits, day_in_one, date_in_one, length_in_one};
 
 use civil::Date;
-use date_lines::{Converted, Kind};
+use date_lines::{Kind, NotConverted, conversion_number, length_told};
+use days::refusal::result_number;
 
 fn in_one(refusal: u32, number: u64) -> u64
     requires { number < 4294967296 }
@@ -15,10 +16,13 @@ fn in_one(refusal: u32, number: u64) -> u64
     4294967296 * refusal as u64 + number
 }
 
-fn length_in_one(done: Converted) -> u64
+fn length_in_one(done: Result<usize, NotConverted>) -> u64
     ensures { result ≡ length_in_one done }
 {
-    in_one(done.refusal, (done.length % 4294967296) as u64)
+    in_one(
+        conversion_number(done),
+        (length_told(done) % 4294967296) as u64,
+    )
 }
 
 #[unsafe(no_mangle)]
@@ -26,7 +30,13 @@ pub extern "C" fn bridge_iso_day(year: u32, month: u32, day: u32) -> u64
     ensures { result ≡ day_in_one (iso_day_of (record { year = year; month = month; day = day })) }
 {
     let answer = iso::day_of(Date { year, month, day });
-    in_one(answer.refusal, answer.number as u64)
+    in_one(result_number(answer), answer.unwrap_or(0) as u64)
+}
+
+fn digits(date: Date) -> u64
+    ensures { result ≡ digits date }
+{
+    10000 * date.year as u64 + 100 * date.month as u64 + date.day as u64
 }
 
 // The date as the number of its digits.
@@ -35,9 +45,7 @@ pub extern "C" fn bridge_iso_date(day: u32) -> u64
     ensures { result ≡ date_in_one (iso_date_of day) }
 {
     let answer = iso::date_of(day);
-    let date = answer.date;
-    let number = 10000 * date.year as u64 + 100 * date.month as u64 + date.day as u64;
-    in_one(answer.refusal, number)
+    in_one(result_number(answer), answer.map_or(0, digits))
 }
 
 #[unsafe(no_mangle)]

@@ -19,21 +19,22 @@ mod pieces;
 mod rows;
 mod whys;
 
-ghost use Rattle.std.specs.Prelude.{◌≡◌, ◌+◌, ◌<◌};
-ghost use Rattle.bridge.specs.Bytes.{number_from, weekdays_from, asked_from, arc_from, body_arcs_from, arcs_from, true_arcs_from, query_from};
+ghost use Rattle.std.specs.Prelude.{◌≡◌, ◌+◌, ◌<◌, map, All};
+ghost use Rattle.days.specs.Refusals.{and_then};
+ghost use Rattle.search.specs.Search.{measured_of};
+ghost use Rattle.bridge.specs.Bytes.{number_from, weekdays_from, asked_from, arc_from, body_arcs_from, query_from, query_read};
 ghost use Rattle.bridge.specs.Answers.{bridge_result, bridge_list, bridge_refusal, bridge_first, bridge_length, bridge_looked};
-ghost use Rattle.bridge.specs.Numbers.{BridgeMeasured};
 
-use days::refusal;
+use days::refusal::{Refusal, result_number};
 use query::{Arc, Asked, BodyArcs, Query, Weekdays};
-use search::Found;
+use search::{Found, search_number};
 
 const QUERY_BYTES: usize = 436;
 
 fn number(query: &[u8], place: usize) -> u32
     ensures { result ≡ number_from query.now place }
 {
-    entries::entry_at(query, place).number
+    entries::entry_at(query, place).unwrap_or(0)
 }
 
 fn weekdays(query: &[u8]) -> Weekdays
@@ -77,34 +78,16 @@ fn body_arcs(query: &[u8], place: usize, apart: usize) -> BodyArcs
     BodyArcs { first, second }
 }
 
-fn arcs(query: &[u8]) -> [BodyArcs; 9]
-    ensures { result ≡ arcs_from query.now }
+// Both arcs of bodies whose first arcs are at these places.
+fn arcs_at<const N: usize>(query: &[u8], places: &[usize; N], apart: usize) -> [BodyArcs; N]
+    requires { All (λ place. place + apart < 107) places.now }
+    ensures { result ≡ map (body_arcs_from query.now apart) places.now }
 {
-    [
-        body_arcs(query, 10, 28),
-        body_arcs(query, 13, 28),
-        body_arcs(query, 16, 28),
-        body_arcs(query, 19, 28),
-        body_arcs(query, 22, 28),
-        body_arcs(query, 25, 28),
-        body_arcs(query, 28, 28),
-        body_arcs(query, 31, 28),
-        body_arcs(query, 34, 28),
-    ]
-}
-
-fn true_arcs(query: &[u8]) -> [BodyArcs; query::TRUE_BODIES]
-    ensures { result ≡ true_arcs_from query.now }
-{
-    [
-        body_arcs(query, 67, 3),
-        body_arcs(query, 73, 3),
-        body_arcs(query, 79, 3),
-        body_arcs(query, 85, 3),
-        body_arcs(query, 91, 3),
-        body_arcs(query, 97, 3),
-        body_arcs(query, 103, 3),
-    ]
+    let mut arcs = [BodyArcs::NONE; N];
+    for k in 0..N {
+        arcs[k] = body_arcs(query, places[k], apart);
+    }
+    arcs
 }
 
 fn query_of(query: &[u8]) -> Query
@@ -116,10 +99,10 @@ fn query_of(query: &[u8]) -> Query
     let tithi = asked(query, 4);
     let nakshatra = asked(query, 6);
     let yoga = asked(query, 8);
-    let arcs = arcs(query);
+    let arcs = arcs_at(query, &[10, 13, 16, 19, 22, 25, 28, 31, 34], 28);
     let edition = number(query, 37);
     let karana = asked(query, 65);
-    let true_arcs = true_arcs(query);
+    let true_arcs = arcs_at(query, &[67, 73, 79, 85, 91, 97, 103], 3);
     Query {
         first,
         last,
@@ -142,9 +125,9 @@ pub extern "C" fn bridge_search(query: &[u8], list: &mut [u8]) -> u32
 {
     if query.len() == QUERY_BYTES {
         let asked = query_of(query);
-        return search::search(asked, list).refusal;
+        return search_number(search::search(asked, list));
     }
-    refusal::BAD_INPUT
+    Refusal::BadInput.number()
 }
 
 // The refusal, or 0 with the first of the matching days written to the list, as many as it has entries.
@@ -154,24 +137,30 @@ pub extern "C" fn bridge_list_first(query: &[u8], list: &mut [u8]) -> u32
     ensures list_after { list.new ≡ bridge_first query.now list.old }
 {
     if query.len() != QUERY_BYTES {
-        return refusal::BAD_INPUT;
+        return Refusal::BadInput.number();
     }
     let asked = query_of(query);
-    search::list_first(asked, list).refusal
+    result_number(search::list_first(asked, list))
+}
+
+// The query of the bytes, where they are as many as a query has.
+#[tactic(auto, unfolding(crate::specs::Bytes::query_read))]
+fn read(query: &[u8]) -> Result<Query, Refusal>
+    ensures { result ≡ query_read query.now }
+{
+    if query.len() == QUERY_BYTES {
+        Ok(query_of(query))
+    } else {
+        Err(Refusal::BadInput)
+    }
 }
 
 // The two numbers of a search.
-fn measured(query: &[u8]) -> Found
-    ensures { BridgeMeasured query.now result }
+fn measured(query: &[u8]) -> Result<Found, Refusal>
+    ensures { result ≡ and_then (query_read query.now) measured_of }
 {
-    if query.len() == QUERY_BYTES {
-        return search::measure(query_of(query));
-    }
-    Found {
-        refusal: refusal::BAD_INPUT,
-        length: 0,
-        examined: 0,
-    }
+    let asked = read(query)?;
+    search::measure(asked)
 }
 
 // How many days match.
@@ -179,7 +168,7 @@ fn measured(query: &[u8]) -> Found
 pub extern "C" fn bridge_length(query: &[u8]) -> u32
     ensures { result ≡ bridge_length query.now }
 {
-    measured(query).length
+    measured(query).map_or(0, |found| found.length)
 }
 
 // How many days the search examines.
@@ -187,5 +176,5 @@ pub extern "C" fn bridge_length(query: &[u8]) -> u32
 pub extern "C" fn bridge_looked(query: &[u8]) -> u32
     ensures { result ≡ bridge_looked query.now }
 {
-    measured(query).examined
+    measured(query).map_or(0, |found| found.examined)
 }

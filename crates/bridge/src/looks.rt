@@ -1,56 +1,38 @@
 // The look as C calls, each number of its answer by a call of its own.
 ghost use Rattle.std.specs.Prelude.{◌≡◌, cond};
+ghost use Rattle.days.specs.Refusals.{result_number, part_or_zero};
 ghost use Rattle.bridge.specs.Answers.{bridge_examined};
-ghost use Rattle.bridge.specs.Numbers.{BridgeLook};
 
-use days::refusal;
+use days::refusal::{Refusal, result_number};
+use search::Examined;
 
-#[derive(Clone, Copy)]
-struct Look {
-    result: u32,
-    matches: u32,
-    next: u32,
-}
-
-fn look_at(query: &[u8], day: u32) -> Look
-    ensures { BridgeLook query.now day result }
+fn look_at(query: &[u8], day: u32) -> Result<Examined, Refusal>
+    ensures { result ≡ bridge_examined query.now day }
 {
-    if query.len() == super::QUERY_BYTES {
-        let seen = search::examine(super::query_of(query), day);
-        let matches = seen.matches as u32;
-        return Look {
-            result: seen.refusal,
-            matches,
-            next: seen.next,
-        };
-    }
-    Look {
-        result: refusal::BAD_INPUT,
-        matches: 0,
-        next: 0,
-    }
+    let asked = super::read(query)?;
+    search::examine(asked, day)
 }
 
 // The refusal, or 0.
 #[unsafe(no_mangle)]
 pub extern "C" fn bridge_examine_result(query: &[u8], day: u32) -> u32
-    ensures { result ≡ (bridge_examined query.now day).refusal }
+    ensures { result ≡ result_number (bridge_examined query.now day) }
 {
-    look_at(query, day).result
+    result_number(look_at(query, day))
 }
 
 // 1 where the day matches, else 0.
 #[unsafe(no_mangle)]
 pub extern "C" fn bridge_examine_matches(query: &[u8], day: u32) -> u32
-    ensures { result ≡ cond (bridge_examined query.now day).matches 1 0 }
+    ensures { result ≡ part_or_zero (λ seen. cond seen.matches 1 0) (bridge_examined query.now day) }
 {
-    look_at(query, day).matches
+    look_at(query, day).map_or(0, |seen| seen.matches as u32)
 }
 
 // The day that the scan visits next.
 #[unsafe(no_mangle)]
 pub extern "C" fn bridge_examine_next(query: &[u8], day: u32) -> u32
-    ensures { result ≡ (bridge_examined query.now day).next }
+    ensures { result ≡ part_or_zero (λ seen. seen.next) (bridge_examined query.now day) }
 {
-    look_at(query, day).next
+    look_at(query, day).map_or(0, |seen| seen.next)
 }

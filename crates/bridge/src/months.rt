@@ -1,13 +1,14 @@
 // Rows of month starts in any edition: a row comes by its edition, its number of month starts and its number of days
 // covered, as stored.
-ghost use Rattle.std.specs.Prelude.{◌≡◌, ◌/◌};
+ghost use Rattle.std.specs.Prelude.{◌≡◌, ◌/◌, ◌≤◌};
 ghost use Rattle.entries.specs.Entries.{capacity};
-ghost use Rattle.lunar_months.specs.MonthStarts.{month_numbers};
+ghost use Rattle.days.specs.Refusals.{result_number};
+ghost use Rattle.lunar_months.specs.Numbers.{month_numbers};
 ghost use Rattle.lunar_months.specs.Rows.{new_row, extended_by, list_after, month_at};
 ghost use Rattle.bridge.specs.Months.{row_of, together, starts_together, covered_together, month_together};
-ghost use Rattle.bridge.specs.Numbers.{BridgeMonth};
 
-use lunar_months::{MonthNumbers, Months};
+use days::refusal::result_number;
+use lunar_months::{MonthNumbers, Months, month_numbers, row_numbers};
 
 fn row(edition: u32, turns: u32, covered: u32) -> Months
     ensures { result ≡ row_of edition turns covered }
@@ -36,18 +37,16 @@ fn month(
     day: u32,
     list: &[u8],
 ) -> MonthNumbers
-    ensures { BridgeMonth turns (month_numbers (month_at (row_of edition turns covered) list.now asked_edition day)) result }
+    ensures { (result ≡ month_numbers (month_at (row_of edition turns covered) list.now asked_edition day)) × (result.number ≤ turns) }
 {
-    row(edition, turns, covered)
-        .month_at(list, asked_edition, day)
-        .numbers()
+    month_numbers(row(edition, turns, covered).month_at(list, asked_edition, day))
 }
 
 #[unsafe(no_mangle)]
 pub extern "C" fn bridge_months_new(edition: u32) -> u32
-    ensures { result ≡ (new_row edition).refusal }
+    ensures { result ≡ result_number (new_row edition) }
 {
-    Months::new(edition).refusal
+    result_number(Months::new(edition))
 }
 
 // The refusal × 2³² and the number of month starts after the extension, with 7 the number that would do.
@@ -62,8 +61,8 @@ pub extern "C" fn bridge_months_extend(
     ensures value { result ≡ starts_together (extended_by (row_of edition turns covered) days (capacity list.old)) }
     ensures list_after { list.new ≡ list_after (row_of edition turns covered) days list.old }
 {
-    let after = row(edition, turns, covered).extend(days, list);
-    joined(after.refusal, after.months.starts)
+    let after = row_numbers(row(edition, turns, covered).extend(days, list));
+    joined(after.refusal, after.starts)
 }
 
 // The refusal × 2³² and the number of days covered after the extension.
@@ -77,8 +76,8 @@ pub extern "C" fn bridge_months_covered(
 ) -> u64
     ensures { result ≡ covered_together (extended_by (row_of edition turns covered) days (list_len / 4)) }
 {
-    let after = row(edition, turns, covered).extended(days, list_len as usize);
-    joined(after.refusal, after.months.covered as usize)
+    let after = row_numbers(row(edition, turns, covered).extended(days, list_len as usize));
+    joined(after.refusal, after.covered as usize)
 }
 
 // The number of month starts × 2³² and the latest one's day; 0 where there is none, and where it is refused.

@@ -2,11 +2,11 @@
 ghost use Rattle.std.specs.Prelude.{◌≡◌, ◌≤◌, get_or};
 ghost use Rattle.reasons.specs.Reasons.{cause_of};
 ghost use Rattle.bridge.specs.Answers.{one_number, both_numbers, six_of, bridge_why};
-ghost use Rattle.bridge.specs.Numbers.{BridgeCause, BridgeWhy};
+ghost use Rattle.bridge.specs.Numbers.{BridgeCause, asked_told, BridgeWhy};
 
-use days::refusal;
+use days::refusal::{Refusal, result_number};
 use query::BodyArcs;
-use reasons::{Answer, Reason};
+use reasons::Reason;
 
 // What shuts the day out: the condition's number, the values asked, in six places, and the value found.
 #[derive(Clone, Copy)]
@@ -16,10 +16,9 @@ struct Cause {
     found: u32,
 }
 
-// The answer in numbers; a refusal has all zeros.
+// The answer in numbers.
 #[derive(Clone, Copy)]
-struct Numbers {
-    result: u32,
+struct Told {
     edition: u32,
     cause: Cause,
 }
@@ -83,30 +82,25 @@ fn cause_of(reason: Reason) -> Cause
     }
 }
 
-fn answer(query: &[u8], day: u32) -> Numbers
+fn answer(query: &[u8], day: u32) -> Result<Told, Refusal>
     ensures { BridgeWhy (bridge_why query.now day) result }
 {
-    if query.len() != super::QUERY_BYTES {
-        return Numbers {
-            result: refusal::BAD_INPUT,
-            edition: 0,
-            cause: NOTHING,
-        };
-    }
-    match reasons::why(super::query_of(query), day) {
-        Answer::Refused(refusal) => Numbers {
-            result: refusal,
-            edition: 0,
-            cause: NOTHING,
-        },
-        Answer::Told { edition, reason } => {
-            let cause = cause_of(reason);
-            Numbers {
-                result: refusal::NONE,
-                edition,
-                cause,
-            }
-        }
+    let asked = super::read(query)?;
+    let told = reasons::why(asked, day)?;
+    let cause = cause_of(told.reason);
+    Ok(Told {
+        edition: told.edition,
+        cause,
+    })
+}
+
+// The values asked; zeros of a refusal.
+fn values_asked(answer: Result<Told, Refusal>) -> [u32; 6]
+    ensures { result ≡ asked_told answer }
+{
+    match answer {
+        Ok(told) => told.cause.asked,
+        Err(_) => [0; 6],
     }
 }
 
@@ -115,7 +109,7 @@ fn answer(query: &[u8], day: u32) -> Numbers
 pub extern "C" fn bridge_why_result(query: &[u8], day: u32) -> u32
     ensures { result ≡ (bridge_why query.now day).refusal }
 {
-    answer(query, day).result
+    result_number(answer(query, day))
 }
 
 // The edition by which the answer is reckoned.
@@ -123,7 +117,7 @@ pub extern "C" fn bridge_why_result(query: &[u8], day: u32) -> u32
 pub extern "C" fn bridge_why_edition(query: &[u8], day: u32) -> u32
     ensures { result ≡ (bridge_why query.now day).edition }
 {
-    answer(query, day).edition
+    answer(query, day).map_or(0, |told| told.edition)
 }
 
 // The number of the first condition that does not hold: 1 before the span, 2 after it, 3 weekday, 4 tithi, 5 nakshatra,
@@ -133,7 +127,7 @@ pub extern "C" fn bridge_why_edition(query: &[u8], day: u32) -> u32
 pub extern "C" fn bridge_why_condition(query: &[u8], day: u32) -> u32
     ensures { result ≡ (bridge_why query.now day).cause.condition }
 {
-    answer(query, day).cause.condition
+    answer(query, day).map_or(0, |told| told.cause.condition)
 }
 
 // One of the values asked, counted from 0; of arcs first given, start and width, second given, start and width; a set
@@ -142,9 +136,8 @@ pub extern "C" fn bridge_why_condition(query: &[u8], day: u32) -> u32
 pub extern "C" fn bridge_why_asked(query: &[u8], day: u32, index: u32) -> u32
     ensures { result ≡ get_or (six_of (bridge_why query.now day).cause.asked) index 0 }
 {
-    let found = answer(query, day);
-    let asked = found.cause.asked;
-    if index < 6 { asked[index as usize] } else { 0 }
+    let asked = values_asked(answer(query, day));
+    asked.get(index as usize).copied().unwrap_or(0)
 }
 
 // The value found.
@@ -152,5 +145,5 @@ pub extern "C" fn bridge_why_asked(query: &[u8], day: u32, index: u32) -> u32
 pub extern "C" fn bridge_why_found(query: &[u8], day: u32) -> u32
     ensures { result ≡ (bridge_why query.now day).cause.found }
 {
-    answer(query, day).cause.found
+    answer(query, day).map_or(0, |told| told.cause.found)
 }

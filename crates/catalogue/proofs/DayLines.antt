@@ -1,19 +1,19 @@
 -- The line of a day in each form, put together from what is found of the day, and that it fits a line: each number of
 -- it has few digits, and each name is short. Assumes nothing.
-use mathlib.Core.Path.{◌≡◌, refl, ap, ◌∙◌}
+use mathlib.Core.Path.{◌≡◌}
 use mathlib.Core.Bool.{Bool, true, false, cond}
 use mathlib.Core.List.{List, [], ◌∷◌, ◌++◌, append_assoc}
 use Prim.Native.Nat.{ℕ, ◌≤◌, ◌<◌}
 use native.Mathlib.Omega.{arith}
 use lib.Dec.{eqb}
 use lib.ListN.{length, length-append}
-use Rattle.civil.specs.Answers.{date_of_day}
+use Rattle.std.specs.Result.{result_unwrap_or}
+use Rattle.civil.specs.Answers.{zeros, date_or_zeros}
 use Rattle.dated.specs.Dated.{named_day_bytes}
 use Rattle.dated.proofs.Laws.{named-day-short, named-day-some, full-date-length}
-use Rattle.days.specs.declared.DayAnswer.{DayAnswer}
-use Rattle.days.specs.declared.NumberAnswer.{NumberAnswer}
-use Rattle.days.specs.Days.{last_day, pair_at, day_of, weekday_on, weekday_at, weekday_of}
-use Rattle.days.proofs.Laws.{day-of, pair-in-range, given-number, count-pair}
+use Rattle.std.specs.Prelude.{Ok}
+use Rattle.days.specs.Days.{last_day, pair_at, weekday_on}
+use Rattle.days.proofs.Laws.{pair-in-range}
 use Rattle.iso.specs.Calendar.{iso_date_of}
 use Rattle.names.specs.declared.Kind.{Kind}
 use Rattle.names.specs.declared.Kind.TheVariants.{Tithi, Nakshatra, Yoga, Karana, Weekday}
@@ -22,9 +22,9 @@ use Rattle.names.specs.declared.Print.TheVariants.{Numbers, Names, Csv}
 use Rattle.names.specs.Columns.{padded, aligned, padded_name}
 use Rattle.names.proofs.Columns.{name-fits, column-short, aligned-length, padded-name-length, quoted-short}
 use Rattle.panchanga.specs.declared.Panchanga.{Panchanga}
-use Rattle.panchanga.specs.OnDays.{panchanga_of, tithi_at, nakshatra_at, yoga_at, karana_at}
+use Rattle.panchanga.specs.OnDays.{panchanga_at, panchanga_of, tithi_at, nakshatra_at, yoga_at, karana_at}
 use Rattle.panchanga.specs.TrueLongitudes.{second_edition, is_edition}
-use Rattle.panchanga.proofs.Answers.{elements-given}
+use Rattle.panchanga.proofs.Answers.{answered}
 use Rattle.panchanga.proofs.Bounds.{tithi-small, nakshatra-small, yoga-small, karana-range}
 use Rattle.text.specs.Ascii.{ascii}
 use Rattle.text.specs.Decimal.{digits_of}
@@ -32,36 +32,24 @@ use Rattle.text.specs.declared.Line.{Line}
 use Rattle.text.specs.Lines.{newline, line_capacity, with_byte, with_bytes, spaced}
 use Rattle.text.proofs.Lines.{with-byte-is, with-bytes-append}
 use Rattle.text.proofs.Printing.{digits-length}
-use Rattle.catalogue.specs.Catalogue.{edition_text, counts_line, element_bytes, column_heading, named_elements, column_line, csv_heading, csv_fields, csv_elements, csv_line, catalogue_heading, day_line}
+use Rattle.catalogue.specs.Catalogue.{edition_text, counts_line, element_bytes, column_heading, named_elements, column_line, csv_heading, csv_fields, csv_elements, csv_line, elements_told, catalogue_heading, day_line}
 
 -- ---- what is put together
-pub numbers-made :
-    (ed : ℕ) (l : Line) (n : ℕ) (answer : DayAnswer) (p : Panchanga) →
-    n ≤ last_day →
-    answer ≡ day_of n →
-    p ≡ panchanga_of ed answer.day →
-    with_byte (with_bytes (with_bytes l (named_day_bytes n)) (element_bytes p)) newline ≡ with_bytes l (day_line Numbers ed n)
-unfolding day_line
-numbers-made ed l n answer p h ea ep = rw (ep, ea, day-of n h) (put-together (named_day_bytes n) (element_bytes (panchanga_of ed (pair_at n))))
-  where
-    put-together : (day elements : List ℕ) → with_byte (with_bytes (with_bytes l day) elements) newline ≡ with_bytes l (day ++ (elements ++ (newline ∷ [])))
-    put-together day elements = simp (with-byte-is, with-bytes-append, append_assoc)
-
--- the weekday and the elements that are found of a day are those of its line
-module _ (ed n : ℕ) (answer : DayAnswer) (weekday : NumberAnswer) (p : Panchanga) (h : n ≤ last_day) (ea : answer ≡ day_of n) (ew : weekday ≡ weekday_of answer.day) (ep : p ≡ panchanga_of ed answer.day) where
-  the-weekday : weekday.number ≡ weekday_on n
-  the-weekday = rw (ew, ea, day-of n h) (given-number weekday_at (pair_at n) refl (pair-in-range n h) ∙ ap weekday_on (count-pair n))
-
-  the_elements : p ≡ panchanga_of ed (pair_at n)
-  the_elements = rw (ep, ea, day-of n h)
-
-  pub columns-made : column_line n weekday.number p ≡ day_line Names ed n
+module _ (ed n : ℕ) (p : Panchanga) (ep : Ok p ≡ panchanga_of ed (pair_at n)) where
+  pub numbers-made : (l : Line) → with_byte (with_bytes (with_bytes l (named_day_bytes n)) (element_bytes p)) newline ≡ with_bytes l (day_line Numbers ed n)
   unfolding day_line
-  columns-made = rw (the-weekday, the_elements)
+  numbers-made l = rw (← ep) (put-together (named_day_bytes n) (element_bytes p))
+    where
+      put-together : (day elements : List ℕ) → with_byte (with_bytes (with_bytes l day) elements) newline ≡ with_bytes l (day ++ (elements ++ (newline ∷ [])))
+      put-together day elements = simp (with-byte-is, with-bytes-append, append_assoc)
 
-  pub csv-made : csv_line n weekday.number p ≡ day_line Csv ed n
+  pub columns-made : column_line n (weekday_on n) p ≡ day_line Names ed n
   unfolding day_line
-  csv-made = rw (the-weekday, the_elements)
+  columns-made = rw (← ep)
+
+  pub csv-made : csv_line n (weekday_on n) p ≡ day_line Csv ed n
+  unfolding day_line
+  csv-made = rw (← ep)
 
 -- ---- how long it is: no element's number has more than two digits
 record Few (p : Panchanga) : Type 0 where
@@ -70,10 +58,10 @@ record Few (p : Panchanga) : Type 0 where
   yoga : length (digits_of p.yoga) ≤ 2
   karana : length (digits_of p.karana) ≤ 2
 
-few : (ed n : ℕ) → is_edition ed ≡ true → n ≤ last_day → Few (panchanga_of ed (pair_at n))
+few : (ed n : ℕ) → is_edition ed ≡ true → n ≤ last_day → Few (elements_told (panchanga_of ed (pair_at n)))
 few ed n t h =
     let d = pair_at n in
-    rw (elements-given ed d (record { edition = t; range = pair-in-range n h }))
+    rw (answered panchanga_at ed d (record { edition = t; range = pair-in-range n h }))
     (record {
       tithi = digits-length 1 (tithi_at ed d) (omega (arith, tithi-small ed d));
       nakshatra = digits-length 1 (nakshatra_at ed d) (omega (arith, nakshatra-small ed d));
@@ -98,7 +86,7 @@ column-line-short : (n weekday : ℕ) (p : Panchanga) → n ≤ last_day → len
 unfolding column_line
 column-line-short n weekday p h =
     simp length-append
-    (omega (arith, aligned-length 6 (digits_of n) (digits-length 5 n (omega arith)), full-date-length (date_of_day n).date, padded-short Weekday weekday, names-short p))
+    (omega (arith, aligned-length 6 (digits_of n) (digits-length 5 n (omega arith)), full-date-length (date_or_zeros n), padded-short Weekday weekday, names-short p))
 
 fields-short : (k : Kind) (n : ℕ) → length (digits_of n) ≤ 2 → length (csv_fields k n) ≤ 25
 unfolding csv_fields
@@ -114,13 +102,13 @@ csv-line-short : (n weekday : ℕ) (p : Panchanga) → n ≤ last_day → weekda
 unfolding csv_line
 csv-line-short n weekday p h w f =
     simp length-append
-    (omega (arith, digits-length 5 n (omega arith), full-date-length (date_of_day n).date, full-date-length (iso_date_of n).date, fields-short Weekday weekday (digits-length 1 weekday (omega arith)), csv-short p f))
+    (omega (arith, digits-length 5 n (omega arith), full-date-length (date_or_zeros n), full-date-length (result_unwrap_or (iso_date_of n) zeros), fields-short Weekday weekday (digits-length 1 weekday (omega arith)), csv-short p f))
 
 pub line-fits : (form : Print) (ed n : ℕ) → is_edition ed ≡ true → n ≤ last_day → length (day_line form ed n) ≤ line_capacity
 unfolding day_line
 line-fits Numbers ed n t h = simp length-append (omega (arith, named-day-short n h, numbers-short _ (few ed n t h)))
-line-fits Names ed n t h = column-line-short n (weekday_on n) (panchanga_of ed (pair_at n)) h
-line-fits Csv ed n t h = csv-line-short n (weekday_on n) (panchanga_of ed (pair_at n)) h (omega arith) (few ed n t h)
+line-fits Names ed n t h = column-line-short n (weekday_on n) (elements_told (panchanga_of ed (pair_at n))) h
+line-fits Csv ed n t h = csv-line-short n (weekday_on n) (elements_told (panchanga_of ed (pair_at n))) h (omega arith) (few ed n t h)
 
 pub line-some : (form : Print) (ed n : ℕ) → 1 ≤ length (day_line form ed n)
 unfolding day_line column_line csv_line

@@ -10,14 +10,17 @@ use native.Mathlib.Omega.{arith}
 use borrow.Author.Tests.{le-leb, lt-leb, leb-true}
 use lib.Dec.{leb}
 use lib.ListN.{length}
-use Rattle.days.specs.Refusals.{out_of_range, list_too_short}
+use Rattle.std.specs.Prelude.{Result, Ok, Err}
 use Rattle.days.specs.Days.{last_day}
 use Rattle.names.specs.declared.Print.{Print}
 use Rattle.panchanga.specs.TrueLongitudes.{is_edition}
 use Rattle.catalogue.specs.declared.Piece.{Piece}
+use Rattle.entries.specs.declared.NotPut.{NotPut}
+use Rattle.entries.specs.declared.NotPut.TheVariants.{Refused, TooShort}
+use Rattle.days.specs.declared.refusal.Refusal.TheVariants.{OutOfRange}
 use Rattle.catalogue.specs.Catalogue.{catalogue_heading, day_line}
 use Rattle.entries.specs.Listed.{listed_from}
-use Rattle.catalogue.specs.Pieces.{day_lines, line_fits, printed_days, with_front, the_piece, no_piece, put_piece, piece_of, lines_piece, lines_after, heading_piece, heading_after, of_edition, left_in_edition}
+use Rattle.catalogue.specs.Pieces.{day_lines, line_fits, printed_days, with_front, the_piece, piece_number, put_piece, piece_of, lines_piece, lines_after, heading_piece, heading_after, of_edition, left_in_edition}
 
 module _ (form : Print) (ed : ℕ) where
   abbrev line_length : ℕ → ℕ
@@ -58,15 +61,15 @@ module _ (form : Print) (ed : ℕ) where
   printed-end room d ds e = rw (e, printed_days)
 
   -- piece_of, case by case
-  pub piece-none : (room k : ℕ) → piece_of form ed room k [] ≡ the_piece 0 k
+  pub piece-none : (room k : ℕ) → piece_of form ed room k [] ≡ Ok (the_piece 0 k)
   unfolding piece_of
   piece-none room k = refl
 
-  pub piece-no-day : (room k d : ℕ) (ds : List ℕ) → last_day < d → piece_of form ed room k (d ∷ ds) ≡ no_piece out_of_range 0
+  pub piece-no-day : (room k d : ℕ) (ds : List ℕ) → last_day < d → piece_of form ed room k (d ∷ ds) ≡ Err (Refused OutOfRange)
   unfolding piece_of
   piece-no-day room k d ds h = rw (lt-leb d last_day h)
 
-  pub piece-no-room : (room k d : ℕ) (ds : List ℕ) → d ≤ last_day → room < line_length d → piece_of form ed room k (d ∷ ds) ≡ no_piece list_too_short (line_length d)
+  pub piece-no-room : (room k d : ℕ) (ds : List ℕ) → d ≤ last_day → room < line_length d → piece_of form ed room k (d ∷ ds) ≡ Err (TooShort (line_length d))
   unfolding piece_of
   piece-no-room room k d ds h n = rw (le-leb d last_day h, lt-leb (line_length d) room n)
 
@@ -84,38 +87,38 @@ module _ (form : Print) (ed : ℕ) where
       go false e = absurd (omega (arith, ap length (printed-end room d ds e)))
 
   -- by a refusal the buffer is as it was
-  pub refused-kept : (list : List ℕ) (k : ℕ) (before : List ℕ) → ((lines_piece form ed list k (length before)).refusal ≡ 0 → ⊥) → lines_after form ed list k before ≡ before
+  pub refused-kept : (list : List ℕ) (k : ℕ) (before : List ℕ) → (piece_number (lines_piece form ed list k (length before)) ≡ 0 → ⊥) → lines_after form ed list k before ≡ before
   unfolding day_lines
   refused-kept list k before refused = go (listed_from list k) refused
     where
       none : (ds : List ℕ) → printed_days form ed (length before) ds ≡ [] → with_front (day_lines form ed (printed_days form ed (length before) ds)) before ≡ before
       none ds e = rw e
 
-      go : (ds : List ℕ) → ((piece_of form ed (length before) k ds).refusal ≡ 0 → ⊥) → with_front (day_lines form ed (printed_days form ed (length before) ds)) before ≡ before
+      go : (ds : List ℕ) → (piece_number (piece_of form ed (length before) k ds) ≡ 0 → ⊥) → with_front (day_lines form ed (printed_days form ed (length before) ds)) before ≡ before
       go [] r = none [] (printed-none (length before))
       go (d ∷ ds) r = fit (line_fits form ed (length before) d) refl
         where
           fit : (b : Bool) → line_fits form ed (length before) d ≡ b → with_front (day_lines form ed (printed_days form ed (length before) (d ∷ ds))) before ≡ before
-          fit true e = absurd (r (ap (λ (p : Piece). p.refusal) (piece-some (length before) k d ds e)))
+          fit true e = absurd (r (ap piece_number (piece-some (length before) k d ds e)))
           fit false e = none (d ∷ ds) (printed-end (length before) d ds e)
 
   -- the heading, put whole or refused
   module _ (found examined : ℕ) (before : List ℕ) where
-    pub record Headed (piece : Piece) (after : List ℕ) : Type 0 where
+    pub record Headed (piece : Result Piece NotPut) (after : List ℕ) : Type 0 where
       pub answer : heading_piece form ed found examined (length before) ≡ piece
       pub put : heading_after form ed found examined before ≡ after
 
-    pub heading-put : length (catalogue_heading form ed found examined) ≤ length before → Headed (the_piece (length (catalogue_heading form ed found examined)) 0) (with_front (catalogue_heading form ed found examined) before)
+    pub heading-put : length (catalogue_heading form ed found examined) ≤ length before → Headed (Ok (the_piece (length (catalogue_heading form ed found examined)) 0)) (with_front (catalogue_heading form ed found examined) before)
     unfolding heading_piece heading_after
     heading-put h = let fits = le-leb (length (catalogue_heading form ed found examined)) (length before) h in record { answer = rw fits; put = rw fits }
 
-    pub heading-refused : length before < length (catalogue_heading form ed found examined) → Headed (no_piece list_too_short (length (catalogue_heading form ed found examined))) before
+    pub heading-refused : length before < length (catalogue_heading form ed found examined) → Headed (Err (TooShort (length (catalogue_heading form ed found examined)))) before
     unfolding heading_piece heading_after
     heading-refused h = let long = lt-leb (length (catalogue_heading form ed found examined)) (length before) h in record { answer = rw long; put = rw long }
 
 -- what a call hands back and leaves, where the number is an edition's
 module _ (ed : ℕ) (t : is_edition ed ≡ true) where
-  pub piece-given : (piece : Piece) → of_edition ed piece ≡ piece
+  pub piece-given : (piece : Result Piece NotPut) → of_edition ed piece ≡ piece
   piece-given piece = rw t
 
   pub buffer-given : (before after : List ℕ) → left_in_edition ed before after ≡ after

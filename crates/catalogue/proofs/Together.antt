@@ -15,9 +15,12 @@ use Rattle.entries.proofs.Listed.{no-days, more-days, days-length}
 use Rattle.names.specs.declared.Print.{Print}
 use Rattle.panchanga.specs.TrueLongitudes.{is_edition}
 use Rattle.text.specs.Lines.{line_capacity}
+use Rattle.std.specs.Prelude.{Result, Ok}
+use Rattle.days.specs.Refusals.{number_or_zero}
 use Rattle.catalogue.specs.declared.Piece.{Piece}
+use Rattle.entries.specs.declared.NotPut.{NotPut}
 use Rattle.catalogue.specs.Catalogue.{day_line}
-use Rattle.catalogue.specs.Pieces.{day_lines, line_fits, printed_days, the_piece, put_piece, piece_of, lines_piece, lines_after}
+use Rattle.catalogue.specs.Pieces.{day_lines, line_fits, printed_days, the_piece, piece_number, piece_bytes, piece_next, put_piece, piece_of, lines_piece, lines_after}
 use Rattle.catalogue.specs.Each.{EachFits}
 use Rattle.catalogue.proofs.DayLines.{line-fits, line-some}
 use Rattle.catalogue.proofs.Pieces.{no_lines, fits, fitting, printed-none, printed-more, printed-end, piece-none, piece-some}
@@ -41,12 +44,12 @@ module _ (form : Print) (ed : ℕ) where
   first-none : (list : List ℕ) (k n : ℕ) → First list k n []
   first-none list k n = ap₂ (entry_days list) (omega arith) (omega arith)
 
-  first_more : (list : List ℕ) (k n : ℕ) (ds : List ℕ) → First list (suc k) n ds → First list k (suc n) ((entry_at list k).number ∷ ds)
+  first_more : (list : List ℕ) (k n : ℕ) (ds : List ℕ) → First list (suc k) n ds → First list k (suc n) (number_or_zero (entry_at list k) ∷ ds)
   unfolding entry_days
   first_more list k n ds h =
       let next : suc k + length ds ≡ k + suc (length ds) = omega arith in
       let left : n - length ds ≡ suc n - suc (length ds) = omega arith in
-      ap (λ (l : List ℕ). (entry_at list k).number ∷ l) (h ∙ ap₂ (λ (i m : ℕ). ds ++ entry_days list i m) next left)
+      ap (λ (l : List ℕ). number_or_zero (entry_at list k) ∷ l) (h ∙ ap₂ (λ (i m : ℕ). ds ++ entry_days list i m) next left)
 
   -- the days printed are the first of those due
   printed-first : (room : ℕ) (list : List ℕ) (k n : ℕ) → First list k n (printed_days form ed room (entry_days list k n))
@@ -54,7 +57,7 @@ module _ (form : Print) (ed : ℕ) where
   printed-first room list k (suc n) = go (line_fits form ed room d) refl (printed-first (room - length (day_line form ed d)) list (suc k) n)
     where
       d : ℕ
-      d = (entry_at list k).number
+      d = number_or_zero (entry_at list k)
 
       go :
           (b : Bool) →
@@ -80,9 +83,9 @@ module _ (form : Print) (ed : ℕ) where
       go false e h = rw (printed-end form ed room d ds e) (unfold day_lines in omega arith)
 
   -- where each line fits there is no refusal
-  piece-each : (room k : ℕ) (ds : List ℕ) → EachFits form ed room ds → piece_of form ed room k ds ≡ put_piece form ed k (printed_days form ed room ds)
+  pub piece-each : (room k : ℕ) (ds : List ℕ) → EachFits form ed room ds → piece_of form ed room k ds ≡ put_piece form ed k (printed_days form ed room ds)
   unfolding EachFits
-  piece-each room k [] each = piece-none form ed room k ∙ ap₂ the_piece (unfold day_lines printed_days in refl) (unfold printed_days in omega arith)
+  piece-each room k [] each = piece-none form ed room k ∙ ap₂ (λ (b n : ℕ). Ok (the_piece b n)) (unfold day_lines printed_days in refl) (unfold printed_days in omega arith)
   piece-each room k (d ∷ ds) each = piece-some form ed room k d ds each.0
 
   rest-fits : (room : ℕ) (xs ys : List ℕ) → EachFits form ed room (xs ++ ys) → EachFits form ed room ys
@@ -101,17 +104,17 @@ module _ (form : Print) (ed : ℕ) where
   all-printed room (d ∷ ds) each none = absurd (omega (arith, ap length (sym (printed-more form ed room d ds each.0) ∙ none)))
 
   -- what a call tells and leaves behind, where each line due fits the buffer
-  pub record Going (list : List ℕ) (k : ℕ) (before : List ℕ) (piece : Piece) (after : List ℕ) : Type 0 where
-    pub good : piece.refusal ≡ 0
-    pub within : piece.bytes ≤ length before
+  pub record Going (list : List ℕ) (k : ℕ) (before : List ℕ) (answer : Result Piece NotPut) (after : List ℕ) : Type 0 where
+    pub good : piece_number answer ≡ 0
+    pub within : piece_bytes answer ≤ length before
     -- the bytes put are the front of the lines due, and those from the entry handed back on are the rest
-    pub lines : day_lines form ed (listed_from list k) ≡ take piece.bytes after ++ day_lines form ed (listed_from list piece.next)
-    pub front : length (take piece.bytes after) ≡ piece.bytes
-    pub fits_on : (room : ℕ) → EachFits form ed room (listed_from list k) → EachFits form ed room (listed_from list piece.next)
+    pub lines : day_lines form ed (listed_from list k) ≡ take (piece_bytes answer) after ++ day_lines form ed (listed_from list (piece_next answer))
+    pub front : length (take (piece_bytes answer) after) ≡ piece_bytes answer
+    pub fits_on : (room : ℕ) → EachFits form ed room (listed_from list k) → EachFits form ed room (listed_from list (piece_next answer))
     -- nothing is put only where nothing is due, and else the next entry is a later one
-    pub done : piece.bytes ≡ 0 → listed_from list k ≡ []
-    pub on : (piece.bytes ≡ 0 → ⊥) → k < piece.next
-    pub forward : k ≤ piece.next
+    pub done : piece_bytes answer ≡ 0 → listed_from list k ≡ []
+    pub on : (piece_bytes answer ≡ 0 → ⊥) → k < piece_next answer
+    pub forward : k ≤ piece_next answer
 
   pub going : (list : List ℕ) (k : ℕ) (before : List ℕ) → EachFits form ed (length before) (listed_from list k) → Going list k before (lines_piece form ed list k (length before)) (lines_after form ed list k before)
   going list k before each =
@@ -150,8 +153,8 @@ module _ (form : Print) (ed : ℕ) where
   pub pieces_from : List ℕ → (ℕ → List ℕ) → ℕ → ℕ → List ℕ
   pieces_from list buffers zero k = []
   pieces_from list buffers (suc n) k =
-      take (lines_piece form ed list k (length (buffers n))).bytes (lines_after form ed list k (buffers n))
-      ++ pieces_from list buffers n (lines_piece form ed list k (length (buffers n))).next
+      take (piece_bytes (lines_piece form ed list k (length (buffers n)))) (lines_after form ed list k (buffers n))
+      ++ pieces_from list buffers n (piece_next (lines_piece form ed list k (length (buffers n))))
 
   pub pieces-together :
       (list : List ℕ) (buffers : ℕ → List ℕ) (n k : ℕ) →
@@ -163,16 +166,16 @@ module _ (form : Print) (ed : ℕ) where
       let none : capacity list - k ≡ 0 = omega arith in
       sym (ap (λ (m : ℕ). day_lines form ed (entry_days list k m)) none ∙ ap (day_lines form ed) (no-days list k))
   pieces-together list buffers (suc n) k each enough =
-      ap (λ (l : List ℕ). take piece.bytes (lines_after form ed list k (buffers n)) ++ l)
-      (pieces-together list buffers n piece.next (λ i. g.fits_on (length (buffers i)) (each i)) (fewer (dec_le 1 piece.bytes)))
+      ap (λ (l : List ℕ). take (piece_bytes answer) (lines_after form ed list k (buffers n)) ++ l)
+      (pieces-together list buffers n (piece_next answer) (λ i. g.fits_on (length (buffers i)) (each i)) (fewer (dec_le 1 (piece_bytes answer))))
       ∙ sym g.lines
     where
-      piece : Piece
-      piece = lines_piece form ed list k (length (buffers n))
+      answer : Result Piece NotPut
+      answer = lines_piece form ed list k (length (buffers n))
 
-      g : Going list k (buffers n) piece (lines_after form ed list k (buffers n))
+      g : Going list k (buffers n) answer (lines_after form ed list k (buffers n))
       g = going list k (buffers n) (each n)
 
-      fewer : Dec (1 ≤ piece.bytes) → capacity list - piece.next ≤ n
+      fewer : Dec (1 ≤ piece_bytes answer) → capacity list - piece_next answer ≤ n
       fewer (yes h) = omega (arith, g.on (λ z. omega arith))
       fewer (no h) = omega (arith, g.forward, sym (days-length list k (capacity list - k)) ∙ ap length (g.done (omega arith)))

@@ -35,7 +35,7 @@ worked-headings = refl
 
 -- the elements of both days but for the karana
 abbrev elements : ℕ → Panchanga
-elements karana = record { refusal = 0; sun = 0; moon = 0; tithi = 14; nakshatra = 15; yoga = 18; karana = karana }
+elements karana = record { sun = 0; moon = 0; tithi = 14; nakshatra = 15; yoga = 18; karana = karana }
 
 pub worked-lines :
     element_bytes (elements 7)

@@ -1,8 +1,10 @@
 -- The lines of a catalogue of days, in each of the forms in which a page may ask for them.
 -- Assumes nothing.
-use Rattle.std.specs.Prelude.{cond, List, [], ◌∷◌, ◌++◌, ℕ, eqb}
-use Rattle.civil.specs.Answers.{date_of_day}
+use Rattle.std.specs.Prelude.{cond, List, [], ◌∷◌, ◌++◌, ℕ, eqb, Result}
+use Rattle.std.specs.Result.{result_unwrap_or}
+use Rattle.civil.specs.Answers.{zeros, date_or_zeros}
 use Rattle.dated.specs.Dated.{full_date_bytes, named_day_bytes}
+use Rattle.days.specs.declared.refusal.Refusal.{Refusal}
 use Rattle.days.specs.Days.{pair_at, weekday_on}
 use Rattle.iso.specs.Calendar.{iso_date_of}
 use Rattle.names.specs.declared.Kind.{Kind}
@@ -62,11 +64,15 @@ named_elements p =
     ++ (gap
     ++ (padded_name Nakshatra p.nakshatra ++ (gap ++ (padded_name Yoga p.yoga ++ (gap ++ name_of Karana p.karana))))))
 
+-- the elements that are told of a day, and zeros for a number that is no day's
+abbrev pub elements_told : Result Panchanga Refusal → Panchanga
+elements_told answer = result_unwrap_or answer (record { sun = 0; moon = 0; tithi = 0; nakshatra = 0; yoga = 0; karana = 0 })
+
 -- the line of day n, with its weekday and elements: its date is the civil one, as in every form
 unfoldable pub column_line : ℕ → ℕ → Panchanga → List ℕ
 column_line n weekday p =
     aligned day_column (digits_of n)
-    ++ (gap ++ (full_date_bytes (date_of_day n).date ++ (gap ++ (padded_name Weekday weekday ++ (named_elements p ++ ascii "\n")))))
+    ++ (gap ++ (full_date_bytes (date_or_zeros n) ++ (gap ++ (padded_name Weekday weekday ++ (named_elements p ++ ascii "\n")))))
 
 -- ---- by both, in a comma-separated table (RFC 4180): a line ends with a carriage return and a newline
 abbrev pub line_end : List ℕ
@@ -91,8 +97,8 @@ unfoldable pub csv_line : ℕ → ℕ → Panchanga → List ℕ
 csv_line n weekday p =
     digits_of n
     ++ (ascii ","
-    ++ (full_date_bytes (date_of_day n).date
-    ++ (ascii "," ++ (full_date_bytes (iso_date_of n).date ++ (csv_fields Weekday weekday ++ (csv_elements p ++ line_end))))))
+    ++ (full_date_bytes (date_or_zeros n)
+    ++ (ascii "," ++ (full_date_bytes (result_unwrap_or (iso_date_of n) zeros) ++ (csv_fields Weekday weekday ++ (csv_elements p ++ line_end))))))
 
 -- ---- THE CATALOGUE in a form: what stands above the days, and the line of day n in an edition
 unfoldable pub catalogue_heading : Print → ℕ → ℕ → ℕ → List ℕ
@@ -102,9 +108,9 @@ catalogue_heading Names edition length examined = counts_line edition length exa
 catalogue_heading Csv edition length examined = csv_heading
 
 unfoldable pub day_line : Print → ℕ → ℕ → List ℕ
-day_line Numbers edition n = named_day_bytes n ++ (element_bytes (panchanga_of edition (pair_at n)) ++ ascii "\n")
-day_line Names edition n = column_line n (weekday_on n) (panchanga_of edition (pair_at n))
-day_line Csv edition n = csv_line n (weekday_on n) (panchanga_of edition (pair_at n))
+day_line Numbers edition n = named_day_bytes n ++ (element_bytes (elements_told (panchanga_of edition (pair_at n))) ++ ascii "\n")
+day_line Names edition n = column_line n (weekday_on n) (elements_told (panchanga_of edition (pair_at n)))
+day_line Csv edition n = csv_line n (weekday_on n) (elements_told (panchanga_of edition (pair_at n)))
 
 -- what is said beside it: a comma-separated table has no place for the first line
 unfoldable pub counts_said : Print → ℕ → ℕ → ℕ → List ℕ

@@ -1,17 +1,20 @@
 // A catalogue of days, in one of three forms: its heading and its lines, put piece by piece into a lent buffer.
 #![tactic(auto)]
 
-ghost use Rattle.std.specs.Prelude.{◌≡◌, true, cond, ◌+◌, ◌≤◌, ltb};
+ghost use Rattle.std.specs.Prelude.{◌≡◌, true, cond, ◌+◌, ◌≤◌, ltb, Ok, Err};
 ghost use lib.ListN.{length};
 ghost use Rattle.std.proofs.Math.Seq.{paste};
 ghost use Rattle.days.specs.Days.{last_day};
 ghost use Rattle.panchanga.specs.TrueLongitudes.{is_edition};
 ghost use Rattle.text.specs.Lines.{line_capacity, empty_line, with_bytes, Holds};
 ghost use Rattle.catalogue.specs.Catalogue.{edition_text, counts_line, element_bytes, named_elements, column_line, csv_fields, csv_elements, csv_line, catalogue_heading, day_line, counts_said};
-ghost use Rattle.catalogue.specs.Pieces.{the_piece, no_piece, lines_piece, lines_after, heading_piece, heading_after, of_edition, left_in_edition};
+ghost use Rattle.catalogue.specs.Pieces.{lines_piece, lines_after, heading_piece, heading_after, of_edition, left_in_edition};
 
+use civil::Date;
 use dated::{put_aligned, put_full_date};
-use days::{Day, refusal};
+use days::Day;
+use days::refusal::Refusal;
+use entries::NotPut;
 use names::{Kind, Print, put_name, put_padded, put_quoted};
 use panchanga::{Panchanga, SECOND_EDITION};
 use text::Line;
@@ -97,9 +100,9 @@ fn put_named_elements(line: Line, elements: Panchanga) -> Line
 fn column_line(day: u32, weekday: u32, elements: Panchanga) -> Line
     ensures { result ≡ with_bytes empty_line (column_line day weekday elements) }
 {
-    let found = civil::date_of(day);
+    let date = civil::date_or_zeros(day);
     let numbered = put_aligned(Line::empty(), day, DAY_COLUMN).text(b"  ");
-    let dated = put_full_date(numbered, found.date).text(b"  ");
+    let dated = put_full_date(numbered, date).text(b"  ");
     let named = put_padded(dated, Kind::Weekday, weekday);
     put_named_elements(named, elements).byte(b'\n')
 }
@@ -123,11 +126,11 @@ fn put_csv_elements(line: Line, elements: Panchanga) -> Line
 fn csv_line(day: u32, weekday: u32, elements: Panchanga) -> Line
     ensures { result ≡ with_bytes empty_line (csv_line day weekday elements) }
 {
-    let civil = civil::date_of(day);
-    let iso = iso::date_of(day);
+    let civil = civil::date_or_zeros(day);
+    let iso = iso::date_of(day).unwrap_or(Date::ZEROS);
     let numbered = Line::empty().number(day).byte(b',');
-    let dated = put_full_date(numbered, civil.date).byte(b',');
-    let named = put_csv_fields(put_full_date(dated, iso.date), Kind::Weekday, weekday);
+    let dated = put_full_date(numbered, civil).byte(b',');
+    let named = put_csv_fields(put_full_date(dated, iso), Kind::Weekday, weekday);
     put_csv_elements(named, elements).text(b"\r\n")
 }
 
@@ -135,50 +138,23 @@ fn day_line(print: Print, edition: u32, day: u32) -> Line
     requires { (day ≤ last_day) × (is_edition edition ≡ true) }
     ensures { Holds result (day_line print edition day) }
 {
-    let answer = Day::from_number(day);
-    let elements = panchanga::of_day(edition, answer.day);
+    let elements = panchanga::of_day(edition, Day::at(day)).unwrap();
+    let weekday = days::weekday_on(day);
     match print {
         Print::Numbers => {
             let named = dated::put_named_day(Line::empty(), day);
             put_elements(named, elements).byte(b'\n')
         }
-        Print::Names => {
-            let weekday = answer.day.weekday();
-            column_line(day, weekday.number, elements)
-        }
-        Print::Csv => {
-            let weekday = answer.day.weekday();
-            csv_line(day, weekday.number, elements)
-        }
+        Print::Names => column_line(day, weekday, elements),
+        Print::Csv => csv_line(day, weekday, elements),
     }
 }
 
 // What was put at the front of a buffer: how many bytes, and which entry comes next.
-#[derive(Clone, Copy)]
+#[derive(Clone, Copy, Debug, PartialEq, Eq)]
 pub struct Piece {
-    pub refusal: u32,
     pub bytes: usize,
     pub next: usize,
-}
-
-fn accepted(bytes: usize, next: usize) -> Piece
-    ensures { result ≡ the_piece bytes next }
-{
-    Piece {
-        refusal: refusal::NONE,
-        bytes,
-        next,
-    }
-}
-
-fn refused(refusal: u32, bytes: usize) -> Piece
-    ensures { result ≡ no_piece refusal bytes }
-{
-    Piece {
-        refusal,
-        bytes,
-        next: 0,
-    }
 }
 
 // A line's bytes, from byte `at` of the buffer on.
@@ -186,17 +162,12 @@ fn put(buffer: &mut [u8], at: usize, line: Line)
     requires { (length line.bytes ≡ line_capacity) × (line.len ≤ line_capacity) × (at + line.len ≤ length buffer.old) }
     ensures { buffer.new ≡ paste buffer.old at line.bytes line.len }
 {
-    let bytes = line.bytes;
-    let len = line.len;
-    let mut i = 0;
-    while i < len {
-        buffer[at + i] = bytes[i];
-        i += 1;
-    }
+    let filled = &line.bytes[..line.len];
+    buffer[at..at + filled.len()].copy_from_slice(filled);
 }
 
 // The heading of an edition's catalogue, or nothing where it does not fit.
-pub fn heading(edition: u32, length: u32, examined: u32, buffer: &mut [u8]) -> Piece
+pub fn heading(edition: u32, length: u32, examined: u32, buffer: &mut [u8]) -> Result<Piece, NotPut>
     ensures value { result ≡ of_edition edition (heading_piece Print.Numbers edition length examined (lib.ListN.length buffer.old)) }
     ensures buffer_after { buffer.new ≡ left_in_edition edition buffer.old (heading_after Print.Numbers edition length examined buffer.old) }
 {
@@ -210,39 +181,52 @@ pub fn heading_in(
     length: u32,
     examined: u32,
     buffer: &mut [u8],
-) -> Piece
+) -> Result<Piece, NotPut>
     ensures value { result ≡ of_edition edition (heading_piece print edition length examined (lib.ListN.length buffer.old)) }
     ensures buffer_after { buffer.new ≡ left_in_edition edition buffer.old (heading_after print edition length examined buffer.old) }
 {
     if !panchanga::is_edition(edition) {
-        return refused(refusal::BAD_EDITION, 0);
+        return Err(NotPut::Refused(Refusal::BadEdition));
     }
     put_heading(print, edition, length, examined, buffer)
 }
 
-fn put_heading(print: Print, edition: u32, length: u32, examined: u32, buffer: &mut [u8]) -> Piece
+fn put_heading(
+    print: Print,
+    edition: u32,
+    length: u32,
+    examined: u32,
+    buffer: &mut [u8],
+) -> Result<Piece, NotPut>
     ensures value { result ≡ heading_piece print edition length examined (lib.ListN.length buffer.old) }
     ensures buffer_after { buffer.new ≡ heading_after print edition length examined buffer.old }
 {
     let line = heading_line(print, edition, length, examined);
     let len = line.len;
     if buffer.len() < len {
-        return refused(refusal::LIST_TOO_SHORT, len);
+        return Err(NotPut::TooShort(len as u32));
     }
     put(buffer, 0, line);
-    accepted(len, 0)
+    Ok(Piece {
+        bytes: len,
+        next: 0,
+    })
 }
 
 // Where the line due cannot be put: the piece so far, or the refusal where it is empty.
-fn unless_empty(piece: Piece, from: usize, refused: Piece) -> Piece
-    ensures { result ≡ cond (ltb from piece.next) piece refused }
+fn unless_empty(piece: Piece, from: usize, refused: NotPut) -> Result<Piece, NotPut>
+    ensures { result ≡ cond (ltb from piece.next) (Ok piece) (Err refused) }
 {
-    if from < piece.next { piece } else { refused }
+    if from < piece.next {
+        Ok(piece)
+    } else {
+        Err(refused)
+    }
 }
 
 // The lines of a list's days from an entry on, with an edition's elements, as many as fit whole, at the front of the
 // buffer.
-pub fn lines(edition: u32, list: &[u8], from: usize, buffer: &mut [u8]) -> Piece
+pub fn lines(edition: u32, list: &[u8], from: usize, buffer: &mut [u8]) -> Result<Piece, NotPut>
     ensures value { result ≡ of_edition edition (lines_piece Print.Numbers edition list.now from (length buffer.old)) }
     ensures buffer_after { buffer.new ≡ left_in_edition edition buffer.old (lines_after Print.Numbers edition list.now from buffer.old) }
 {
@@ -250,36 +234,51 @@ pub fn lines(edition: u32, list: &[u8], from: usize, buffer: &mut [u8]) -> Piece
 }
 
 // The lines in a form.
-pub fn lines_in(print: Print, edition: u32, list: &[u8], from: usize, buffer: &mut [u8]) -> Piece
+pub fn lines_in(
+    print: Print,
+    edition: u32,
+    list: &[u8],
+    from: usize,
+    buffer: &mut [u8],
+) -> Result<Piece, NotPut>
     ensures value { result ≡ of_edition edition (lines_piece print edition list.now from (length buffer.old)) }
     ensures buffer_after { buffer.new ≡ left_in_edition edition buffer.old (lines_after print edition list.now from buffer.old) }
 {
     if !panchanga::is_edition(edition) {
-        return refused(refusal::BAD_EDITION, 0);
+        return Err(NotPut::Refused(Refusal::BadEdition));
     }
     put_lines(print, edition, list, from, buffer)
 }
 
-fn put_lines(print: Print, edition: u32, list: &[u8], from: usize, buffer: &mut [u8]) -> Piece
+fn put_lines(
+    print: Print,
+    edition: u32,
+    list: &[u8],
+    from: usize,
+    buffer: &mut [u8],
+) -> Result<Piece, NotPut>
     requires { is_edition edition ≡ true }
     ensures value { result ≡ lines_piece print edition list.now from (length buffer.old) }
     ensures buffer_after { buffer.new ≡ lines_after print edition list.now from buffer.old }
 {
-    let mut piece = accepted(0, from);
-    loop {
-        let due = entries::entry_at(list, piece.next);
-        if due.refusal != refusal::NONE {
-            return piece;
+    let mut piece = Piece {
+        bytes: 0,
+        next: from,
+    };
+    while let Ok(day) = entries::entry_at(list, piece.next) {
+        if Day::LAST < day {
+            return unless_empty(piece, from, NotPut::Refused(Refusal::OutOfRange));
         }
-        if Day::LAST < due.number {
-            return unless_empty(piece, from, refused(refusal::OUT_OF_RANGE, 0));
-        }
-        let line = day_line(print, edition, due.number);
+        let line = day_line(print, edition, day);
         let len = line.len;
         if buffer.len() - piece.bytes < len {
-            return unless_empty(piece, from, refused(refusal::LIST_TOO_SHORT, len));
+            return unless_empty(piece, from, NotPut::TooShort(len as u32));
         }
         put(buffer, piece.bytes, line);
-        piece = accepted(piece.bytes + len, piece.next + 1);
+        piece = Piece {
+            bytes: piece.bytes + len,
+            next: piece.next + 1,
+        };
     }
+    Ok(piece)
 }

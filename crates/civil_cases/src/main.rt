@@ -3,7 +3,7 @@
 #![tactic(auto)]
 
 use civil::Date;
-use days::refusal;
+use days::refusal::Refusal;
 
 // Julian: common, leap, century. The year of the change. Gregorian: leap century, common, leap, common century.
 const YEARS: [u32; 8] = [1521, 1524, 1500, 1582, 1600, 1603, 1604, 1700];
@@ -42,9 +42,9 @@ const DAYS: [u32; 17] = [
     401600, 4294967295,
 ];
 
-fn print_refused(refusal: u32) {
+fn print_refused(refusal: Refusal) {
     io::write_all(1, b"refused ");
-    io::print_decimal(1, refusal as u64);
+    io::print_decimal(1, refusal.number() as u64);
 }
 
 fn print_date(date: Date) {
@@ -60,15 +60,12 @@ fn print_day(day: u32) {
     io::print_decimal(1, day as u64);
 }
 
-fn try_date(year: u32, month: u32, day: u32) {
-    let date = Date { year, month, day };
+fn try_date(date: Date) {
     print_date(date);
     io::write_all(1, b": ");
-    let answer = civil::day_of(date);
-    if answer.refusal == refusal::NONE {
-        print_day(answer.number);
-    } else {
-        print_refused(answer.refusal);
+    match civil::day_of(date) {
+        Ok(day) => print_day(day),
+        Err(refusal) => print_refused(refusal),
     }
     io::write_all(1, b"\n");
 }
@@ -76,51 +73,30 @@ fn try_date(year: u32, month: u32, day: u32) {
 fn try_day(day: u32) {
     print_day(day);
     io::write_all(1, b": ");
-    let answer = civil::date_of(day);
-    if answer.refusal == refusal::NONE {
-        print_date(answer.date);
-    } else {
-        print_refused(answer.refusal);
+    match civil::date_of(day) {
+        Ok(date) => print_date(date),
+        Err(refusal) => print_refused(refusal),
     }
     io::write_all(1, b"\n");
 }
 
-// The last days of a month, and the first ones after it.
-fn try_month_end(year: u32, month: u32) {
-    try_date(year, month, 28);
-    try_date(year, month, 29);
-    try_date(year, month, 30);
-    try_date(year, month, 31);
-    try_date(year, month, 32);
-}
-
+// The last days of each month, and the first ones after it.
 fn try_year(year: u32) {
-    for month in 1..13 {
-        try_month_end(year, month);
-    }
-}
-
-fn try_years() {
-    for i in 0..YEARS.len() {
-        try_year(YEARS[i]);
-    }
-}
-
-fn try_singles() {
-    for i in 0..SINGLES.len() {
-        let single = SINGLES[i];
-        try_date(single[0], single[1], single[2]);
-    }
-}
-
-fn try_days() {
-    for i in 0..DAYS.len() {
-        try_day(DAYS[i]);
+    for month in 1..=12 {
+        for day in 28..=32 {
+            try_date(Date { year, month, day });
+        }
     }
 }
 
 fn main() {
-    try_years();
-    try_singles();
-    try_days();
+    for year in YEARS {
+        try_year(year);
+    }
+    for [year, month, day] in SINGLES {
+        try_date(Date { year, month, day });
+    }
+    for day in DAYS {
+        try_day(day);
+    }
 }

@@ -1,68 +1,77 @@
 -- What is printed: the days of lines that are accepted, listed and put as lines of the other kind, or the refusal's
 -- line. Assumes nothing.
-use mathlib.Core.Bool.{Bool, true, false, cond, ◌&&◌}
 use mathlib.Core.Path.{◌≡◌, refl, ap, ap₂, sym, ◌∙◌}
 use mathlib.Core.List.{List, ◌++◌}
 use Prim.Native.Nat.{ℕ, ◌*◌, ◌≤◌}
 use native.Mathlib.Omega.{arith}
-use lib.Dec.{eqb, ltb}
 use lib.ListN.{length, take, drop, length-append}
 use lib.Seq.{take_at, take-length}
-use borrow.Author.Tests.{eq-eqb, ne_eqb, le-ltb, eqb-true}
+use borrow.Author.Tests.{le-ltb}
 use Rattle.entries.specs.Entries.{entries, capacity, with_entries}
 use Rattle.entries.specs.Listed.{listed_from}
 use Rattle.entries.proofs.Laws.{entries-length}
 use Rattle.entries.proofs.Listed.{listed-entries}
 use Rattle.text.specs.Lines.{refusal_line}
 use Rattle.date_lines.specs.declared.Kind.{Kind}
-use Rattle.date_lines.specs.declared.Converted.{Converted}
+use Rattle.std.specs.Prelude.{Result, Ok, Err}
+use Rattle.days.specs.Refusals.{refusal_number}
+use Rattle.date_lines.specs.declared.NotConverted.{NotConverted}
+use Rattle.date_lines.specs.Told.{why_not}
+use Rattle.conversion.specs.declared.Printed.{Printed}
 use Rattle.date_lines.specs.Texts.{lines_of, days_of, with_room, list_answer, list_after, text_of, converted, days_answer, text_answer, text_after, with_front}
 use Rattle.date_lines.proofs.Reading.{Accepted, accepted-lines, days-length}
 use Rattle.date_lines.proofs.Laws.{each_read, text-short, days-fit}
 use Rattle.conversion.specs.Conversion.{other_kind, read_of, printed, told}
 
-module _ (kind : Kind) (input list : List ℕ) (size : length list ≡ 16384) (read : Converted) (e : read ≡ list_answer kind 4096 input list) where
+module _ (kind : Kind) (input list : List ℕ) (size : length list ≡ 16384) where
   -- the list has an entry for each line, so that the answer is that of the lines
-  is_read : read ≡ read_of kind input
-  is_read = e ∙ (unfold with_room in go (eqb (read_of kind input).refusal 0) refl)
+  is_read : list_answer kind 4096 input list ≡ read_of kind input
+  unfolding with_room
+  is_read = go (read_of kind input) refl
     where
-      go : (t : Bool) → eqb (read_of kind input).refusal 0 ≡ t → cond (t && ltb (capacity list) (read_of kind input).length) (record { refusal = 7; line = 0; length = (read_of kind input).length }) (read_of kind input) ≡ read_of kind input
-      go true z =
-          let a = accepted-lines kind 4096 (lines_of input) (eqb-true _ _ z) in
-          rw (le-ltb (capacity list) (read_of kind input).length (omega (arith, ap (λ (c : Converted). c.length) a.answer, a.few)))
-      go false z = refl
+      go : (r : Result ℕ NotConverted) → read_of kind input ≡ r → with_room (capacity list) r ≡ r
+      go (Ok n) z =
+          let a = accepted-lines kind 4096 (lines_of input) (sym z) in
+          let answer = a.answer in
+          let all : n ≡ length (lines_of input) = cc in
+          rw (le-ltb (capacity list) n (omega (arith, all, a.few)))
+      go (Err f) z = refl
 
   -- refused: the refusal's line is what is printed
-  pub refused-printed : (read.refusal ≡ 0 → ⊥) → (record { refusal = read.refusal; line = read.line; length = length (refusal_line read.refusal) } ≡ told kind input) × (refusal_line read.refusal ≡ printed kind input)
-  unfolding told
-  refused-printed n =
-      let p : refusal_line read.refusal ≡ printed kind input = unfold printed in rw (← is_read, ne_eqb read.refusal 0 n) in
-      (rw (← p, ← is_read), p)
+  pub refused-printed : {f : NotConverted} → Err f ≡ list_answer kind 4096 input list → (record { length = length (refusal_line (refusal_number (why_not f))); read = Err f } ≡ told kind input) × (refusal_line (refusal_number (why_not f)) ≡ printed kind input)
+  unfolding told printed
+  refused-printed {f} e =
+      let r : Err f ≡ read_of kind input = e ∙ is_read in
+      let p : refusal_line (refusal_number (why_not f)) ≡ printed kind input = rw (← r) in
+      (rw (← p, ← r), p)
 
-  module _ (z : read.refusal ≡ 0) where
-    zero : (read_of kind input).refusal ≡ 0
-    zero = ap (λ (c : Converted). c.refusal) (sym is_read) ∙ z
+  module _ {n : ℕ} (e : Ok n ≡ list_answer kind 4096 input list) where
+    r : Ok n ≡ read_of kind input
+    r = e ∙ is_read
 
     a : Accepted kind 4096 (lines_of input)
-    a = accepted-lines kind 4096 (lines_of input) zero
+    a = accepted-lines kind 4096 (lines_of input) r
 
-    pub count : read.length ≡ length (days_of kind (lines_of input))
-    count = ap (λ (c : Converted). c.length) (is_read ∙ a.answer) ∙ sym (days-length kind (lines_of input))
+    pub count : n ≡ length (days_of kind (lines_of input))
+    count =
+        let answer = a.answer in
+        let all : n ≡ length (lines_of input) = cc r in
+        all ∙ sym (days-length kind (lines_of input))
 
-    pub few : read.length ≤ 4096
+    pub few : n ≤ 4096
     few = omega (arith, count, days-length kind (lines_of input), a.few)
 
     print-is : printed kind input ≡ text_of (other_kind kind) (days_of kind (lines_of input))
     unfolding printed
-    print-is = rw (eq-eqb (read_of kind input).refusal 0 zero)
+    print-is = rw (← r)
 
-    module _ (after part output : List ℕ) (room : length output ≡ 45056) (l : after ≡ list_after kind 4096 input list) (p : part ≡ take (4 * read.length) after) where
+    module _ (after part output : List ℕ) (room : length output ≡ 45056) (l : after ≡ list_after kind 4096 input list) (p : part ≡ take (4 * n) after) where
       -- the list's front is the days' entries and nothing else
       front : part ≡ entries (days_of kind (lines_of input))
       front =
-          let put : after ≡ with_entries (days_of kind (lines_of input)) list = l ∙ (unfold list_after in rw (← e, eq-eqb read.refusal 0 z)) in
+          let put : after ≡ with_entries (days_of kind (lines_of input)) list = l ∙ (unfold list_after in rw (← e)) in
           p
-          ∙ ap₂ (λ (n : ℕ) (m : List ℕ). take (4 * n) m) count put
+          ∙ ap₂ (λ (k : ℕ) (m : List ℕ). take (4 * k) m) count put
           ∙ take_at (entries (days_of kind (lines_of input))) (drop (4 * length (days_of kind (lines_of input))) list) (4 * length (days_of kind (lines_of input))) (entries-length (days_of kind (lines_of input)))
 
       listed : listed_from part 0 ≡ days_of kind (lines_of input)
@@ -75,26 +84,30 @@ module _ (kind : Kind) (input list : List ℕ) (size : length list ≡ 16384) (r
           ∙ days-fit (other_kind kind) (days_of kind (lines_of input)) (length output) each
           (omega (arith, text-short (other_kind kind) (days_of kind (lines_of input)) each, count, few))
 
-      told_is : converted (length (text_of (other_kind kind) (days_of kind (lines_of input)))) ≡ told kind input
-      unfolding told
-      told_is = rw (print-is, a.answer)
-
       after_is : text_after (other_kind kind) part output ≡ with_front (text_of (other_kind kind) (days_of kind (lines_of input))) output
       unfolding text_after
       after_is = rw (answer, listed)
 
-      pub all-printed : (to : Kind) → to ≡ other_kind kind → (text_answer to part output ≡ told kind input) × (text_after to part output ≡ with_front (printed kind input) output)
-      all-printed to k = rw k (answer ∙ told_is, after_is ∙ ap (λ (t : List ℕ). with_front t output) (sym print-is))
+      module _ (to : Kind) (k : to ≡ other_kind kind) where
+        pub lines-fit : text_answer to part output ≡ converted (length (text_of (other_kind kind) (days_of kind (lines_of input))))
+        lines-fit = rw k answer
+
+        pub all-printed : {m : ℕ} → Ok m ≡ text_answer to part output → (record { length = m; read = Ok n } ≡ told kind input) × (text_after to part output ≡ with_front (printed kind input) output)
+        unfolding told
+        all-printed {m} h =
+            let fit = lines-fit in
+            let size : m ≡ length (text_of (other_kind kind) (days_of kind (lines_of input))) = cc in
+            (rw (print-is, ← r, size), rw k (after_is ∙ ap (λ (t : List ℕ). with_front t output) (sym print-is)))
 
 -- a line that was made is copied to the output's front
 pub copied : (output source made after : List ℕ) {n : ℕ} → source ≡ made → n ≡ length source → after ≡ take (length source) source ++ drop (length source) output → (n ≡ length made) × (after ≡ with_front made output)
 copied output source made after {n} e c a = (c ∙ ap length e, a ∙ rw (take-length source, e))
 
 -- what was put at the output's front is what is printed
-module _ (kind : Kind) (input output after : List ℕ) (r : Converted) (e : r ≡ told kind input) (a : after ≡ with_front (printed kind input) output) where
+module _ (kind : Kind) (input output after : List ℕ) (r : Printed) (e : r ≡ told kind input) (a : after ≡ with_front (printed kind input) output) where
   size : r.length ≡ length (printed kind input)
   unfolding told
-  size = ap (λ (c : Converted). c.length) e
+  size = ap (λ (c : Printed). c.length) e
 
   pub shown-within : r.length ≤ length after
   shown-within = omega (arith, ap length a, length-append (printed kind input) (drop (length (printed kind input)) output), size)

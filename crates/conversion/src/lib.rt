@@ -3,12 +3,13 @@
 #![tactic(auto)]
 
 ghost use Rattle.std.specs.Prelude.{◌≡◌, length};
+ghost use Rattle.days.specs.Refusals.{refusal_number};
 ghost use Rattle.text.specs.Lines.{with_bytes, Holds, refusal_line};
 ghost use Rattle.date_lines.specs.Texts.{with_front};
 ghost use Rattle.conversion.specs.Conversion.{other_kind, printed, told, form_text, fault_text, fault_line};
 
-use date_lines::{Converted, Kind};
-use days::refusal;
+use date_lines::{Kind, NotConverted};
+use days::refusal::{self, Refusal};
 use output::STDOUT_FILENO;
 use std::io::Stdin;
 use text::Line;
@@ -32,33 +33,46 @@ fn other(kind: Kind) -> Kind
     }
 }
 
-fn put_refusal(read: Converted, output: &mut [u8; OUTPUT]) -> Converted
-    ensures value { result ≡ record { refusal = read.refusal; line = read.line; length = length (refusal_line read.refusal) } }
-    ensures output_after { output.new ≡ with_front (refusal_line read.refusal) output.old }
+// How many bytes are printed, and how many lines are read, or why they are refused.
+#[derive(Clone, Copy)]
+pub struct Printed {
+    pub length: usize,
+    pub read: Result<usize, NotConverted>,
+}
+
+fn put_refusal(refusal: Refusal, output: &mut [u8; OUTPUT]) -> usize
+    ensures value { result ≡ length (refusal_line (refusal_number refusal)) }
+    ensures output_after { output.new ≡ with_front (refusal_line (refusal_number refusal)) output.old }
 {
-    let line = text::refusal_line(read.refusal);
+    let line = text::refusal_line(refusal.number());
     let bytes = line.bytes;
     let len = line.len;
-    let put = entries::copy(&bytes[..len], output);
-    Converted {
-        refusal: read.refusal,
-        line: read.line,
-        length: put,
-    }
+    entries::copy(&bytes[..len], output)
 }
 
 // What is printed for an input, at the front of the output.
-pub fn convert(kind: Kind, input: &[u8], output: &mut [u8; OUTPUT]) -> Converted
+pub fn convert(kind: Kind, input: &[u8], output: &mut [u8; OUTPUT]) -> Printed
     ensures value { result ≡ told kind input.now }
     ensures output_after { output.new ≡ with_front (printed kind input.now) output.old }
 {
     let mut list = [0u8; LIST];
-    let read = date_lines::lines_to_list(kind, input, MOST_LINES, &mut list);
-    if read.refusal != refusal::NONE {
-        return put_refusal(read, output);
+    match date_lines::lines_to_list(kind, input, MOST_LINES, &mut list) {
+        Ok(lines) => {
+            let end = entries::ENTRY_BYTES * lines;
+            let length = date_lines::list_to_lines(other(kind), &list[..end], output).unwrap();
+            Printed {
+                length,
+                read: Ok(lines),
+            }
+        }
+        Err(fault) => {
+            let length = put_refusal(fault.refusal(), output);
+            Printed {
+                length,
+                read: Err(fault),
+            }
+        }
     }
-    let end = entries::ENTRY_BYTES * read.length;
-    date_lines::list_to_lines(other(kind), &list[..end], output)
 }
 
 fn with_form(line: Line, kind: Kind) -> Line
@@ -105,8 +119,8 @@ fn convert_and_print(kind: Kind, input: &[u8]) {
     if !write_printed(kind, input, &output[..length]) {
         output::say(output::not_written());
     }
-    if done.refusal != refusal::NONE {
-        output::say(fault_line(kind, done.refusal, done.line));
+    if let Err(fault) = done.read {
+        output::say(fault_line(kind, fault.refusal().number(), fault.line()));
     }
 }
 

@@ -10,10 +10,12 @@ use native.Mathlib.Omega.{arith}
 use lib.Dec.{eqb, leb}
 use lib.ListN.{length, get_or, length-append}
 use lib.Seq.{take_at, get_or_at, take_all}
-use borrow.Author.Tests.{ne_eqb, le-leb, leb-true, eqb-true, eqb-false, le-ltb}
-use Rattle.days.specs.declared.NumberAnswer.{NumberAnswer}
-use Rattle.days.specs.Refusals.{out_of_range, bad_input, bad_line}
-use Rattle.days.specs.Days.{last_day, the_number, no_number}
+use borrow.Author.Tests.{ne_eqb, le-leb, leb-true, eqb-true, le-ltb}
+use Rattle.std.specs.Prelude.{Result, Ok, Err, is_ok}
+use Rattle.days.specs.declared.refusal.Refusal.{Refusal}
+use Rattle.days.specs.declared.refusal.Refusal.TheVariants.{OutOfRange, ListTooShort, BadLine}
+use Rattle.days.specs.Refusals.{bad_input, result_number, number_or_zero, and_then}
+use Rattle.days.specs.Days.{last_day}
 use Rattle.entries.specs.Listed.{EachDay}
 use Rattle.text.specs.Decimal.{is_digit, all_digits, with_digit, value_of, digit_byte, digits_of}
 use Rattle.text.specs.Lines.{newline}
@@ -24,15 +26,13 @@ use Rattle.text.proofs.Printing.{digits-length}
 use Rattle.text.proofs.RoundTrip.{digits-all, read-digits}
 use Rattle.words.specs.Words.{dash, in_front}
 use Rattle.civil.specs.declared.Date.{Date}
-use Rattle.civil.specs.declared.DateAnswer.{DateAnswer}
-use Rattle.civil.specs.Answers.{the_date, no_date}
 use Rattle.dated.specs.Dated.{two_digits, four_digits, full_date_bytes}
 use Rattle.iso.specs.Calendar.{iso_on, iso_day_of, iso_date_of}
 use Rattle.iso.proofs.Laws.{iso-day-of-date, iso-date-of-day, iso-small, iso-low}
 use Rattle.date_lines.specs.declared.Kind.{Kind}
 use Rattle.date_lines.specs.declared.Kind.TheVariants.{Dates, Days}
 use Rattle.date_lines.specs.Lines.{date_digits, is_date_line, date_in, date_read, number_line_read, date_line, line_read, line_of}
-use Rattle.date_lines.specs.Texts.{lines_of, first_refusal, days_of, converted, lines_read, limited_read, all_days, text_of, days_answer}
+use Rattle.date_lines.specs.Texts.{lines_of, first_refusal, days_of, converted, refused_line, lines_read, limited_read, all_days, text_of, days_answer}
 
 -- the digits of small numbers are digits, and make the numbers again
 last-digit : (n : ℕ) → is_digit (digit_byte (n % 10)) ≡ true
@@ -82,8 +82,8 @@ module _ (x : Date) (y : x.year < 10000) (m : x.month < 100) (d : x.day < 100) w
           go : all_digits (date_digits (date_line x)) ≡ true → (eqb (length (date_line x)) 11 && eqb (get_or (date_line x) 4 0) dash && eqb (get_or (date_line x) 7 0) dash && eqb (get_or (date_line x) 10 0) newline && all_digits (date_digits (date_line x))) ≡ true
           go e = rw e (unfold date_line full_date_bytes in refl)
 
-number-back : (d : ℕ) → d ≤ last_day → number_line_read (digits_of d ++ (newline ∷ [])) ≡ the_number d
-unfolding number_line_read day_input input_read is_line
+number-back : (d : ℕ) → d ≤ last_day → number_line_read (digits_of d ++ (newline ∷ [])) ≡ Ok d
+unfolding number_line_read day_input input_read is_line result_number
 number-back d h =
     let n : length (digits_of d ++ (newline ∷ [])) ≡ length (digits_of d) + 1 = length-append (digits_of d) (newline ∷ []) in
     let s : length (digits_of d ++ (newline ∷ [])) - 1 ≡ length (digits_of d) = omega arith in
@@ -92,7 +92,7 @@ number-back d h =
     (s, take_at (digits_of d) (newline ∷ []) (length (digits_of d)) refl, get_or_at (digits_of d) newline [] 0 (length (digits_of d)) refl, le-leb _ _ few, read-digits d (omega arith), le-leb d last_day h)
 
 -- a day's line is read as the day
-pub line-back : (kind : Kind) (d : ℕ) → d ≤ last_day → line_read kind (line_of kind d) ≡ the_number d
+pub line-back : (kind : Kind) (d : ℕ) → d ≤ last_day → line_read kind (line_of kind d) ≡ Ok d
 unfolding line_read line_of
 line-back Dates d h = let s = iso-small d h in date-back (iso_on d) s.0 s.1.0 s.1.1 ∙ iso-day-of-date d h
 line-back Days d h = number-back d h
@@ -172,7 +172,7 @@ digits-kept a b c d e f g h all =
         ap (λ (z : List ℕ). z ++ (dash ∷ two_digits (n / 100 % 100) ++ (dash ∷ two_digits (n % 100) ++ (newline ∷ [])))) (four-kept (n / 10000) a b c d p q r s split.0)
         ∙ ap₂ (λ (y z : List ℕ). (a ∷ b ∷ c ∷ d ∷ []) ++ (dash ∷ y ++ (dash ∷ z ++ (newline ∷ [])))) (two-kept (n / 100 % 100) e f t u split.1.0) (two-kept (n % 100) g h v w split.1.1)
 
-pub one_line : (l : List ℕ) (d : ℕ) → date_read l ≡ the_number d → l ≡ line_of Dates d
+pub one_line : (l : List ℕ) (d : ℕ) → date_read l ≡ Ok d → l ≡ line_of Dates d
 unfolding date_read line_of
 one_line l d e = go (is_date_line l) refl e
   where
@@ -198,21 +198,16 @@ one_line l d e = go (is_date_line l) refl e
         ∙ marks (get_or l 4 0) (get_or l 7 0) (get_or l 10 0) (eqb-true _ _ v.1) (eqb-true _ _ u.1) (eqb-true _ _ t.1)
         ∙ sym (eleven l (eqb-true (length l) 11 v.0))
 
-    is-day : iso_day_of x ≡ the_number d → iso_on d ≡ x
+    is-day : iso_day_of x ≡ Ok d → iso_on d ≡ x
     is-day k = day (leb d last_day) refl (iso-date-of-day x d k)
       where
-        day : (t : Bool) → leb d last_day ≡ t → iso_date_of d ≡ the_date x → iso_on d ≡ x
-        day true h r =
-            let given : iso_date_of d ≡ the_date (iso_on d) = unfold iso_date_of in rw h in
-            ap (λ (a : DateAnswer). a.date) (sym given ∙ r)
-        day false h r =
-            let none : iso_date_of d ≡ no_date out_of_range = unfold iso_date_of in rw h in
-            let z : ◌≡◌ {A = ℕ} 2 0 = ap (λ (a : DateAnswer). a.refusal) (sym none ∙ r) in
-            absurd (omega arith)
+        day : (t : Bool) → leb d last_day ≡ t → iso_date_of d ≡ Ok x → iso_on d ≡ x
+        day true h r = let given : iso_date_of d ≡ Ok (iso_on d) = unfold iso_date_of in rw h in cc
+        day false h r = let none : iso_date_of d ≡ Err OutOfRange = unfold iso_date_of in rw h in absurd (cc)
 
-    go : (t : Bool) → is_date_line l ≡ t → cond t (iso_day_of x) (no_number bad_line) ≡ the_number d → l ≡ date_line (iso_on d)
+    go : (t : Bool) → is_date_line l ≡ t → cond t (iso_day_of x) (Err BadLine) ≡ Ok d → l ≡ date_line (iso_on d)
     go true f k = sym (ap date_line (is-day k) ∙ printed f)
-    go false f k = let z : ◌≡◌ {A = ℕ} 15 0 = ap (λ (a : NumberAnswer). a.refusal) k in absurd (omega arith)
+    go false f k = absurd cc
 
 -- bytes that are no newline
 NoNewline : List ℕ → Type 0
@@ -244,7 +239,7 @@ first_of Dates d rest = ended (full_date_bytes (iso_on d)) rest (date-no-newline
 
 -- what reading a text says where the text is the lines of days
 pub record Back (kind : Kind) (ds : List ℕ) : Type 0 where
-  pub good : first_refusal kind (lines_of (text_of kind ds)) ≡ 0
+  pub good : first_refusal kind (lines_of (text_of kind ds)) ≡ Ok tt
   pub days : days_of kind (lines_of (text_of kind ds)) ≡ ds
   pub count : length (lines_of (text_of kind ds)) ≡ length ds
 
@@ -265,11 +260,11 @@ back kind (d ∷ ds) each =
     first : lines_of (text_of kind (d ∷ ds)) ≡ line_of kind d ∷ lines_of (text_of kind ds)
     first = unfold text_of in first_of kind d (text_of kind ds)
 
-    good-line : line_read kind (line_of kind d) ≡ the_number d → first_refusal kind (line_of kind d ∷ lines_of (text_of kind ds)) ≡ first_refusal kind (lines_of (text_of kind ds))
+    good-line : line_read kind (line_of kind d) ≡ Ok d → first_refusal kind (line_of kind d ∷ lines_of (text_of kind ds)) ≡ first_refusal kind (lines_of (text_of kind ds))
     good-line r = unfold first_refusal in rw r
 
-    day-line : line_read kind (line_of kind d) ≡ the_number d → days_of kind (line_of kind d ∷ lines_of (text_of kind ds)) ≡ d ∷ days_of kind (lines_of (text_of kind ds))
-    day-line r = unfold days_of in rw r
+    day-line : line_read kind (line_of kind d) ≡ Ok d → days_of kind (line_of kind d ∷ lines_of (text_of kind ds)) ≡ d ∷ days_of kind (lines_of (text_of kind ds))
+    day-line r = unfold days_of number_or_zero in rw r
 
 -- reading what was written gives the list back
 pub list_back : (kind : Kind) (ds : List ℕ) → EachDay ds → lines_read kind (lines_of (text_of kind ds)) ≡ converted (length ds)
@@ -290,34 +285,37 @@ lines-few (b ∷ bs) = go (eqb b newline) (lines_of bs) (lines-few bs)
 pub whole-text : (kind : Kind) (text : List ℕ) → limited_read kind (length text) (lines_of text) ≡ lines_read kind (lines_of text)
 unfolding limited_read
 whole-text kind text =
-    rw (take_all (length text) (lines_of text) (lines-few text), le-ltb (length text) (length (lines_of text)) (lines-few text)) (go (eqb (lines_read kind (lines_of text)).refusal 0))
+    rw (take_all (length text) (lines_of text) (lines-few text), le-ltb (length text) (length (lines_of text)) (lines-few text)) (go (is_ok (lines_read kind (lines_of text))))
   where
-    go : (t : Bool) → cond (t && false) (record { refusal = 7; line = length text + 1; length = 0 }) (lines_read kind (lines_of text)) ≡ lines_read kind (lines_of text)
+    go : (t : Bool) → cond (t && false) (refused_line ListTooShort (length text + 1)) (lines_read kind (lines_of text)) ≡ lines_read kind (lines_of text)
     go true = refl
     go false = refl
 
 -- a line that is read is a day's
-line_low : (kind : Kind) (l : List ℕ) → (line_read kind l).refusal ≡ 0 → (line_read kind l).number ≤ last_day
+line_low : (kind : Kind) (l : List ℕ) {n : ℕ} → Ok n ≡ line_read kind l → n ≤ last_day
 unfolding line_read date_read number_line_read
-line_low Dates l = go (is_date_line l)
+line_low Dates l e = go (is_date_line l) e
   where
-    go : (t : Bool) → (cond t (iso_day_of (date_in (value_of (date_digits l)))) (no_number bad_line)).refusal ≡ 0 → (cond t (iso_day_of (date_in (value_of (date_digits l)))) (no_number bad_line)).number ≤ last_day
+    go : {n : ℕ} (t : Bool) → Ok n ≡ cond t (iso_day_of (date_in (value_of (date_digits l)))) (Err BadLine) → n ≤ last_day
     go true e = iso-low (date_in (value_of (date_digits l))) e
-    go false e = absurd (omega arith)
-line_low Days l = go (eqb (day_input l).refusal bad_input)
+    go false e = absurd cc
+line_low Days l e = go (eqb (result_number (day_input l)) bad_input) e
   where
-    go : (t : Bool) → (cond t (no_number bad_line) (day_input l)).refusal ≡ 0 → (cond t (no_number bad_line) (day_input l)).number ≤ last_day
-    go true e = absurd (omega arith)
-    go false e = day-read-low l (day_input l) refl e
+    go : {n : ℕ} (t : Bool) → Ok n ≡ cond t (Err BadLine) (day_input l) → n ≤ last_day
+    go true e = absurd cc
+    go {n} false e = day-read-low l n e
 
-pub each_read : (kind : Kind) (ls : List (List ℕ)) → first_refusal kind ls ≡ 0 → EachDay (days_of kind ls)
+pub each_read : (kind : Kind) (ls : List (List ℕ)) → first_refusal kind ls ≡ Ok tt → EachDay (days_of kind ls)
 unfolding first_refusal days_of EachDay
 each_read kind [] e = tt
-each_read kind (l ∷ ls) e = go (eqb (line_read kind l).refusal 0) refl e (each_read kind ls)
+each_read kind (l ∷ ls) e = go (line_read kind l) refl e (each_read kind ls)
   where
-    go : (t : Bool) → eqb (line_read kind l).refusal 0 ≡ t → cond t (first_refusal kind ls) (line_read kind l).refusal ≡ 0 → (first_refusal kind ls ≡ 0 → EachDay (days_of kind ls)) → ((line_read kind l).number ≤ last_day) × EachDay (days_of kind ls)
-    go true h k r = (line_low kind l (eqb-true _ _ h), r k)
-    go false h k r = absurd (eqb-false _ _ h k)
+    go : (t : Result ℕ Refusal) → line_read kind l ≡ t → and_then t (λ _. first_refusal kind ls) ≡ Ok tt → (first_refusal kind ls ≡ Ok tt → EachDay (days_of kind ls)) → (number_or_zero (line_read kind l) ≤ last_day) × EachDay (days_of kind ls)
+    go (Ok n) h k r = (low n h, r k)
+      where
+        low : (n : ℕ) → line_read kind l ≡ Ok n → number_or_zero (line_read kind l) ≤ last_day
+        low n h = unfold number_or_zero in rw h (line_low kind l (sym h))
+    go (Err q) h k r = absurd cc
 
 -- the lines of days have at most 11 bytes each
 line-short : (kind : Kind) (d : ℕ) → d ≤ last_day → length (line_of kind d) ≤ 11

@@ -2,21 +2,20 @@
 -- the text. Assumes nothing.
 use mathlib.Core.Path.{◌≡◌, refl, ap, ap₂, sym, ◌∙◌}
 use mathlib.Core.List.{List, [], ◌∷◌, ◌++◌, append_assoc, append-nil}
-use Prim.Native.Nat.{ℕ, ◌+◌, ◌-◌, ◌≤◌, ◌<◌}
+use Prim.Native.Nat.{ℕ, ◌+◌, ◌-◌, ◌≤◌}
 use native.Mathlib.Omega.{arith}
 use lib.ListN.{length, take, drop, length-append, length-take, length-drop, take-append-drop, drop_of_length-le}
 use lib.Seq.{take_at, drop_at, drop-drop, take-length, length-take-le}
 use borrow.Rule.Slice.PartMut.{put_mid}
-use borrow.Author.Tests.{eq-eqb, ne_eqb}
-use Rattle.days.specs.declared.NumberAnswer.{NumberAnswer}
+use Rattle.std.specs.Prelude.{Ok, Err}
 use Rattle.days.specs.Days.{last_day}
 use Rattle.entries.specs.Entries.{capacity, entry_at, copied_count}
 use Rattle.entries.specs.Listed.{listed_from, EachDay}
 use Rattle.entries.proofs.Copying.{copied-with-room}
-use Rattle.entries.proofs.Listed.{no-entry}
+use Rattle.entries.proofs.Listed.{no-entry, due-some}
 use Rattle.text.proofs.Lending.{lent-rest}
 use Rattle.date_lines.specs.declared.Kind.{Kind}
-use Rattle.date_lines.specs.declared.Converted.{Converted}
+use Rattle.date_lines.specs.declared.NotConverted.{NotConverted}
 use Rattle.date_lines.specs.Lines.{line_of}
 use Rattle.date_lines.specs.Texts.{text_of, with_front, text_answer, text_after}
 use Rattle.date_lines.proofs.Measuring.{text-length, next-listed}
@@ -85,32 +84,33 @@ module _ (kind : Kind) (list before : List ℕ) where
   filled_none each h = record { same = refl; few = omega arith; each = each; room = omega arith; whole = refl }
 
   module _ (text : List ℕ) (at index : ℕ) (f : Filled text at index) where
-    module _ (due : NumberAnswer) (h : index < capacity list) (e : due ≡ entry_at list index) where
+    module _ {due : ℕ} (e : Ok due ≡ entry_at list index) where
       abbrev line : List ℕ
-      line = line_of kind due.number
+      line = line_of kind due
 
-      next : listed_from list index ≡ due.number ∷ listed_from list (index + 1)
-      next = next-listed list index due h e
+      next : listed_from list index ≡ due ∷ listed_from list (index + 1)
+      next = next-listed list index e
 
       long : length (ahead index) ≡ length line + length (ahead (index + 1))
-      long = ap (λ (ds : List ℕ). length (text_of kind ds)) next ∙ text-length kind due.number (listed_from list (index + 1))
+      long = ap (λ (ds : List ℕ). length (text_of kind ds)) next ∙ text-length kind due (listed_from list (index + 1))
 
-      one : text_of kind (due.number ∷ listed_from list (index + 1)) ≡ line ++ ahead (index + 1)
+      one : text_of kind (due ∷ listed_from list (index + 1)) ≡ line ++ ahead (index + 1)
       unfolding text_of
       one = refl
 
-      split : EachDay (due.number ∷ listed_from list (index + 1)) → (due.number ≤ last_day) × EachDay (listed_from list (index + 1))
+      split : EachDay (due ∷ listed_from list (index + 1)) → (due ≤ last_day) × EachDay (listed_from list (index + 1))
       unfolding EachDay
       split all = all
 
-      both : (due.number ≤ last_day) × EachDay (listed_from list (index + 1))
+      both : (due ≤ last_day) × EachDay (listed_from list (index + 1))
       both = split (rw next at f.each)
 
-      pub filled-day : (due.number ≤ last_day) × (at + length line ≤ length text)
+      pub filled-day : (due ≤ last_day) × (at + length line ≤ length text)
       filled-day = (both.0, omega (arith, f.room, f.same, long))
 
       pub filled_more : (after : List ℕ) (end : ℕ) → end ≡ at + length line → after ≡ take at text ++ with_front line (drop at text) → Filled after end (index + 1)
       filled_more after end n a =
+          let h = (due-some list index e).there in
           record {
             same = put-length text line after at filled-day.1 a ∙ f.same;
             few = omega arith;
@@ -131,11 +131,11 @@ module _ (kind : Kind) (list before : List ℕ) where
         ∙ f.whole
 
 -- the answers of the whole, by the answer of measuring
-module _ (kind : Kind) (list text : List ℕ) (measured : Converted) (e : measured ≡ text_answer kind list text) where
-  pub not-put : (measured.refusal ≡ 0 → ⊥) → text ≡ text_after kind list text
+module _ (kind : Kind) (list text : List ℕ) where
+  pub not-put : {f : NotConverted} → Err f ≡ text_answer kind list text → text ≡ text_after kind list text
   unfolding text_after
-  not-put n = rw (← e, ne_eqb measured.refusal 0 n)
+  not-put e = rw (← e)
 
-  pub put_whole : measured.refusal ≡ 0 → (after : List ℕ) → after ≡ with_front (text_of kind (listed_from list 0)) text → after ≡ text_after kind list text
+  pub put_whole : {n : ℕ} → Ok n ≡ text_answer kind list text → (after : List ℕ) → after ≡ with_front (text_of kind (listed_from list 0)) text → after ≡ text_after kind list text
   unfolding text_after
-  put_whole z after a = rw (← e, eq-eqb measured.refusal 0 z) a
+  put_whole e after a = rw (← e) a

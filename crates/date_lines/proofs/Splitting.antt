@@ -1,17 +1,21 @@
--- A text's first line and the lines behind it; where it ends is found byte by byte. Assumes nothing.
+-- A text's first line, which ends with the first newline, and the lines behind it. Assumes nothing.
 use mathlib.Core.Bool.{Bool, true, false, cond}
-use mathlib.Core.Path.{◌≡◌, refl, ap, sym, ◌∙◌}
-use mathlib.Core.List.{List, [], ◌∷◌}
-use Prim.Native.Nat.{ℕ, suc, ◌+◌, ◌-◌, ◌≤◌, ◌<◌}
+use mathlib.Core.Path.{◌≡◌, refl, ap, ap₂, sym, ◌∙◌}
+use mathlib.Core.List.{List, [], ◌∷◌, ◌++◌}
+use Prim.Native.Nat.{ℕ, zero, suc, ◌+◌, ◌<◌, min}
 use native.Mathlib.Omega.{arith}
 use lib.Dec.{eqb}
-use lib.ListN.{length, get_or, take, drop, length-drop, drop_of_length-le}
-use lib.Seq.{drop-cons, drop-drop}
-use borrow.Author.Tests.{eq-eqb, ne_eqb}
+use lib.ListN.{length, take, drop}
+use lib.Seq.{take_at, drop_at}
+use Rattle.std.specs.List.{IsFirstMatchOrLen}
 use Rattle.text.specs.Lines.{newline}
 use Rattle.words.specs.Words.{in_front}
 use Rattle.date_lines.specs.Texts.{lines_of}
-use Rattle.date_lines.specs.Parts.{first_length}
+
+-- how many bytes the first line has, its newline included
+unfoldable first_length : List ℕ → ℕ
+first_length [] = 0
+first_length (b ∷ bs) = cond (eqb b newline) 1 (suc (first_length bs))
 
 first-line : (b : ℕ) (bs : List ℕ) → lines_of (b ∷ bs) ≡ take (first_length (b ∷ bs)) (b ∷ bs) ∷ lines_of (drop (first_length (b ∷ bs)) (b ∷ bs))
 unfolding lines_of first_length in_front
@@ -29,43 +33,31 @@ first-line b (c ∷ cs) = go (eqb b newline) (ap (in_front b) (first-line c cs))
     go true h = refl
     go false h = h
 
-pub split : (bs : List ℕ) → 0 < length bs → lines_of bs ≡ take (first_length bs) bs ∷ lines_of (drop (first_length bs) bs)
+split : (bs : List ℕ) → 0 < length bs → lines_of bs ≡ take (first_length bs) bs ∷ lines_of (drop (first_length bs) bs)
 split [] h = absurd (omega arith)
 split (b ∷ bs) h = first-line b bs
 
--- the line that begins at a byte, and those behind it
-pub line-to : (text : List ℕ) (at end : ℕ) → at < length text → end ≡ at + first_length (drop at text) → lines_of (drop at text) ≡ take (end - at) (drop at text) ∷ lines_of (drop end text)
-line-to text at end h e =
-    let n : first_length (drop at text) ≡ end - at = omega arith in
-    split (drop at text) (simp length-drop (omega arith))
-    ∙ ap (λ (l : List ℕ). take (first_length (drop at text)) (drop at text) ∷ lines_of l) (drop-drop (first_length (drop at text)) at text ∙ ap (λ (n : ℕ). drop n text) (sym e))
-    ∙ ap (λ (n : ℕ). take n (drop at text) ∷ lines_of (drop end text)) n
+pub no_lines : (text : List ℕ) → length text ≡ 0 → lines_of text ≡ []
+unfolding lines_of
+no_lines [] h = refl
+no_lines (b ∷ bs) h = absurd (omega arith)
 
-pub no_lines : (text : List ℕ) (at : ℕ) → length text ≤ at → lines_of (drop at text) ≡ []
-no_lines text at h = ap lines_of (drop_of_length-le text {i = at} h) ∙ (unfold lines_of in refl)
-
-first_some : (bs : List ℕ) → 0 < length bs → 1 ≤ first_length bs
+-- a text cut behind its first newline
+first_at : (bs : List ℕ) (i : ℕ) → IsFirstMatchOrLen (λ b. eqb b newline) bs i → first_length bs ≡ min (i + 1) (length bs)
 unfolding first_length
-first_some [] h = absurd (omega arith)
-first_some (b ∷ bs) h = go (eqb b newline)
-  where
-    go : (t : Bool) → 1 ≤ cond t 1 (suc (first_length bs))
-    go true = omega arith
-    go false = omega arith
+first_at [] i h = omega arith
+first_at (b ∷ bs) zero h = rw (h.1 (omega arith) 0) (omega arith)
+first_at (b ∷ bs) (suc i) h = rw (h.0 0 0 (omega arith) (omega arith)) (omega (arith, first_at bs i (λ k d l m. h.0 (suc k) d (omega arith) (omega arith), λ l d. h.1 (omega arith) d)))
 
-pub some_at : (text : List ℕ) (at : ℕ) → at < length text → 1 ≤ first_length (drop at text)
-some_at text at h = first_some (drop at text) (simp length-drop (omega arith))
-
--- from a byte of the line to the next
-module _ (text : List ℕ) (end : ℕ) where
-  pub other_byte : end < length text → (get_or text end 0 ≡ newline → ⊥) → first_length (drop end text) ≡ first_length (drop (suc end) text) + 1
-  unfolding first_length
-  other_byte h n = ap first_length (drop-cons text end 0 h) ∙ rw (ne_eqb (get_or text end 0) newline n) (omega arith)
-
-  pub last_byte : end < length text → get_or text end 0 ≡ newline → first_length (drop end text) ≡ 1
-  unfolding first_length
-  last_byte h e = ap first_length (drop-cons text end 0 h) ∙ rw (eq-eqb (get_or text end 0) newline e)
-
-  pub no_byte : length text ≤ end → first_length (drop end text) ≡ 0
-  unfolding first_length
-  no_byte h = ap first_length (drop_of_length-le text {i = end} h)
+pub line-cut :
+    (text line rest : List ℕ) (i : ℕ) →
+    text ≡ line ++ rest →
+    length line ≡ min (i + 1) (length text) →
+    IsFirstMatchOrLen (λ b. eqb b newline) text i →
+    0 < length text →
+    lines_of text ≡ line ∷ lines_of rest
+line-cut text line rest i e s f h =
+    let n : first_length text ≡ length line = first_at text i f ∙ sym s in
+    let front : take (first_length text) text ≡ line = ap₂ take n e ∙ take_at line rest (length line) refl in
+    let back : drop (first_length text) text ≡ rest = ap₂ drop n e ∙ drop_at line rest (length line) refl in
+    split text h ∙ ap₂ (λ (l m : List ℕ). l ∷ lines_of m) front back

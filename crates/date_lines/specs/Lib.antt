@@ -1,3 +1,3 @@
 pub mod Lines
 pub mod Texts
-pub mod Parts
+pub mod Told

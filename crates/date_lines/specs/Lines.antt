@@ -1,9 +1,9 @@
 -- A line for a day, with its newline: its ISO date, or its number. What is read from it, and what is written.
 -- Assumes nothing.
-use Rattle.std.specs.Prelude.{Bool, cond, ◌&&◌, List, [], ◌∷◌, ◌++◌, ℕ, ◌/◌, ◌%◌, eqb, length, get_or}
-use Rattle.days.specs.declared.NumberAnswer.{NumberAnswer}
-use Rattle.days.specs.Refusals.{bad_input, bad_line}
-use Rattle.days.specs.Days.{no_number}
+use Rattle.std.specs.Prelude.{Bool, cond, ◌&&◌, List, [], ◌∷◌, ◌++◌, ℕ, ◌/◌, ◌%◌, eqb, length, get_or, Result, Err}
+use Rattle.days.specs.declared.refusal.Refusal.{Refusal}
+use Rattle.days.specs.declared.refusal.Refusal.TheVariants.{BadLine}
+use Rattle.days.specs.Refusals.{bad_input, result_number}
 use Rattle.text.specs.Decimal.{all_digits, value_of, digits_of}
 use Rattle.text.specs.Lines.{newline}
 use Rattle.text.specs.Inputs.{day_input}
@@ -27,19 +27,19 @@ abbrev pub date_in : ℕ → Date
 date_in n = record { year = n / 10000; month = n / 100 % 100; day = n % 100 }
 
 -- the day of a line of a date: 15 where it is of another form, then 1 and 2
-unfoldable pub date_read : List ℕ → NumberAnswer
-date_read l = cond (is_date_line l) (iso_day_of (date_in (value_of (date_digits l)))) (no_number bad_line)
+unfoldable pub date_read : List ℕ → Result ℕ Refusal
+date_read l = cond (is_date_line l) (iso_day_of (date_in (value_of (date_digits l)))) (Err BadLine)
 
 -- the day of a line of a number, 1 to 6 digits: 15 where it is of another form, then 2
-unfoldable pub number_line_read : List ℕ → NumberAnswer
-number_line_read l = cond (eqb (day_input l).refusal bad_input) (no_number bad_line) (day_input l)
+unfoldable pub number_line_read : List ℕ → Result ℕ Refusal
+number_line_read l = cond (eqb (result_number (day_input l)) bad_input) (Err BadLine) (day_input l)
 
 -- the date with zeros in front, and its newline
 unfoldable pub date_line : Date → List ℕ
 date_line x = full_date_bytes x ++ (newline ∷ [])
 
 -- by the kind of the lines
-unfoldable pub line_read : Kind → List ℕ → NumberAnswer
+unfoldable pub line_read : Kind → List ℕ → Result ℕ Refusal
 line_read Dates l = date_read l
 line_read Days l = number_line_read l
 

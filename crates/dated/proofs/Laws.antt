@@ -6,18 +6,16 @@ use mathlib.Core.Bool.{Bool, true, false, cond, ◌&&◌, and-eq-true_iff}
 use mathlib.Core.List.{List, [], ◌∷◌, ◌++◌, append_assoc}
 use Prim.Native.Nat.{ℕ, zero, suc, ◌+◌, ◌-◌, ◌/◌, ◌%◌, ◌^◌, ◌≤◌, ◌<◌}
 use native.Mathlib.Nat.{add-suc}
-use native.Mathlib.Decide.{dec_le}
 use native.Mathlib.Omega.{arith}
 use lib.Dec.{ltb, leb, eqb}
 use lib.ListN.{length, length-append, get_or}
 use borrow.Author.Tests.{ltb-true, leb-true, le-leb}
 use Rattle.civil.specs.declared.Date.{Date}
 use Rattle.civil.specs.Calendar.{lengths, leap, month_days, same_date, last_julian, first_gregorian, next, date_on}
-use Rattle.civil.specs.Answers.{date_of_day}
-use Rattle.days.specs.declared.DayAnswer.{DayAnswer}
-use Rattle.days.specs.declared.NumberAnswer.{NumberAnswer}
-use Rattle.days.specs.Days.{last_day, weekday_on, weekday_at, weekday_of, pair_at, in_range, on_day, day_of}
-use Rattle.days.proofs.Laws.{day-of, past-last, pair-in-range, given-number, count-pair}
+use Rattle.civil.specs.Answers.{date_of_day, date_or_zeros}
+use Rattle.std.specs.Result.{result_unwrap_or}
+use Rattle.days.specs.Days.{last_day, weekday_on, weekday_at, weekday_of, pair_at}
+use Rattle.days.proofs.Laws.{pair-in-range, given, count-pair}
 use Rattle.text.specs.Ascii.{ascii}
 use Rattle.names.specs.Columns.{blanks, aligned}
 use Rattle.text.specs.Decimal.{digit_byte, digits_of}
@@ -39,23 +37,15 @@ day-bytes n h = rw (le-leb n last_day h)
 pub named-day-bytes :
     (n : ℕ) → n ≤ last_day → named_day_bytes n ≡ digits_of n ++ (ascii " " ++ (date_bytes (date_on n) ++ (ascii " " ++ name_at weekday_names (weekday_on n))))
 unfolding named_day_bytes
-named-day-bytes n h = rw (day-bytes n h, day-of n h, count-pair n) (simp append_assoc)
-
-answer-weekday : (n : ℕ) → (weekday_of (day_of n).day).number ≡ weekday_at (day_of n).day
-answer-weekday n = go (dec_le n last_day)
-  where
-    go : Dec (n ≤ last_day) → (weekday_of (day_of n).day).number ≡ weekday_at (day_of n).day
-    go (yes h) = rw (day-of n h) (given-number weekday_at (pair_at n) refl (pair-in-range n h))
-    go (no h) = rw (past-last n (omega arith)) (unfold on_day in_range in refl)
+named-day-bytes n h = rw (day-bytes n h, given weekday_at (pair_at n) (pair-in-range n h), count-pair n) (simp append_assoc)
 
 pub named-made :
-    (l : Line) (n : ℕ) (answer : DayAnswer) (weekday : NumberAnswer) (name : List ℕ) →
-    answer ≡ day_of n →
-    weekday ≡ weekday_of answer.day →
-    name ≡ name_at weekday_names weekday.number →
+    (l : Line) (n weekday : ℕ) (name : List ℕ) →
+    weekday ≡ result_unwrap_or (weekday_of (pair_at n)) 0 →
+    name ≡ name_at weekday_names weekday →
     with_bytes (with_byte (with_bytes l (day_bytes n)) space) name ≡ with_bytes l (named_day_bytes n)
 unfolding named_day_bytes
-named-made l n answer weekday name ea ew en = rw (en, ew, ea, answer-weekday n) (put-together (day_bytes n) (name_at weekday_names (weekday_at (day_of n).day)))
+named-made l n weekday name ew en = rw (en, ew) (put-together (day_bytes n) (name_at weekday_names (result_unwrap_or (weekday_of (pair_at n)) 0)))
   where
     put-together : (day name : List ℕ) → with_bytes (with_byte (with_bytes l day) space) name ≡ with_bytes l (day ++ (space ∷ name))
     put-together day name = simp (with-byte-is, with-bytes-append, append_assoc)
@@ -139,7 +129,7 @@ unfolding date_on
 date-small zero = omega arith
 date-small (suc n) = rw (add-suc 1582 n) (next_small (1582 + n) (date_on n) (omega arith) (date-small n))
 
-pub date-short : (n : ℕ) → n ≤ last_day → length (date_bytes (date_of_day n).date) ≤ 12
+pub date-short : (n : ℕ) → n ≤ last_day → length (date_bytes (date_or_zeros n)) ≤ 12
 unfolding date_bytes date_of_day
 date-short n h =
     let s = date-small n in
@@ -158,7 +148,7 @@ name-short w = name-length 9 weekday_names refl w
 
 pub named-day-short : (n : ℕ) → n ≤ last_day → length (named_day_bytes n) ≤ 29
 unfolding named_day_bytes
-named-day-short n h = simp length-append (omega (arith, day-short n h, name-short (weekday_at (day_of n).day)))
+named-day-short n h = simp length-append (omega (arith, day-short n h, name-short (result_unwrap_or (weekday_of (pair_at n)) 0)))
 
 pub named-day-some : (n : ℕ) → 1 ≤ length (named_day_bytes n)
 unfolding named_day_bytes day_bytes

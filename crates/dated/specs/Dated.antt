@@ -2,8 +2,9 @@
 -- Assumes nothing.
 use Rattle.std.specs.Prelude.{List, [], ◌∷◌, ◌++◌, ℕ, ◌/◌, ◌%◌}
 use Rattle.civil.specs.declared.Date.{Date}
-use Rattle.civil.specs.Answers.{date_of_day}
-use Rattle.days.specs.Days.{day_of, weekday_at}
+use Rattle.civil.specs.Answers.{date_or_zeros}
+use Rattle.std.specs.Result.{result_unwrap_or}
+use Rattle.days.specs.Days.{weekday_of, pair_at}
 use Rattle.text.specs.Ascii.{ascii}
 use Rattle.text.specs.Decimal.{digit_byte, digits_of}
 use Rattle.words.specs.Names.{weekday_names}
@@ -26,11 +27,11 @@ full_date_bytes x = four_digits x.year ++ (dash ∷ two_digits x.month ++ (dash 
 
 -- a day: its number and its date
 unfoldable pub day_bytes : ℕ → List ℕ
-day_bytes n = digits_of n ++ (ascii " " ++ date_bytes (date_of_day n).date)
+day_bytes n = digits_of n ++ (ascii " " ++ date_bytes (date_or_zeros n))
 
 -- and its weekday's name
 unfoldable pub named_day_bytes : ℕ → List ℕ
-named_day_bytes n = day_bytes n ++ (ascii " " ++ name_at weekday_names (weekday_at (day_of n).day))
+named_day_bytes n = day_bytes n ++ (ascii " " ++ name_at weekday_names (result_unwrap_or (weekday_of (pair_at n)) 0))
 
 -- an angle, in degrees, minutes and seconds: `D:M:S`
 unfoldable pub angle_bytes : ℕ → List ℕ

@@ -13,6 +13,7 @@ use days::Day;
 use text::Line;
 
 // `YEAR-MONTH-DAY`.
+#[tactic(auto, using(crate::proofs::Puts::puts), unfolding(crate::specs::Dated::date_bytes))]
 pub fn put_date(line: Line, date: Date) -> Line
     ensures { result ≡ with_bytes line (date_bytes date) }
 {
@@ -24,6 +25,7 @@ pub fn put_date(line: Line, date: Date) -> Line
 }
 
 // A number's last two digits.
+#[tactic(auto, using(crate::proofs::Puts::puts))]
 fn put_two_digits(line: Line, number: u32) -> Line
     ensures { result ≡ with_bytes line (two_digits number) }
 {
@@ -51,25 +53,25 @@ pub fn put_aligned(line: Line, number: u32, width: usize) -> Line
 }
 
 // A day's number and its date.
+#[tactic(auto, using(crate::proofs::Puts::puts), unfolding(crate::specs::Dated::day_bytes))]
 pub fn put_day(line: Line, day: u32) -> Line
     ensures { result ≡ with_bytes line (day_bytes day) }
 {
-    let found = civil::date_of(day);
-    put_date(line.number(day).byte(b' '), found.date)
+    put_date(line.number(day).byte(b' '), civil::date_or_zeros(day))
 }
 
 // And its weekday's name.
 pub fn put_named_day(line: Line, day: u32) -> Line
     ensures { result ≡ with_bytes line (named_day_bytes day) }
 {
-    let answer = Day::from_number(day);
-    let weekday = answer.day.weekday();
+    let weekday = Day::at(day).weekday().unwrap_or(0);
     let names = words::WEEKDAYS;
-    let name = words::name_at(&names, weekday.number as usize);
+    let name = words::name_at(&names, weekday as usize);
     put_day(line, day).byte(b' ').text(name)
 }
 
 // An angle, `D:M:S`.
+#[tactic(auto, using(crate::proofs::Puts::puts), unfolding(crate::specs::Dated::angle_bytes))]
 pub fn put_angle(line: Line, seconds: u32) -> Line
     ensures { result ≡ with_bytes line (angle_bytes seconds) }
 {

@@ -5,6 +5,5 @@
 fn main(rt: HostRuntime) {
     let mut stdin = rt.stdin();
     let mut buffer = [0u8; 8];
-    let n = input::read_input(&mut stdin, &mut buffer);
-    output::print(sheet::sheet(&buffer[..n]));
+    let _ = output::print(sheet::sheet(input::read_bytes(&mut stdin, &mut buffer)));
 }

@@ -1,4 +1,3 @@
 pub mod Refusals
 pub mod Days
 pub mod Weekdays
-pub mod Parts

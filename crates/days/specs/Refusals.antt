@@ -1,6 +1,8 @@
 -- The refusals by number: paper 01's, and from 8 on paper 02's. Result 0 means accepted.
 -- Assumes nothing.
-use Rattle.std.specs.Prelude.{ℕ}
+use Rattle.std.specs.Prelude.{ℕ, Result, Ok, Err}
+use Rattle.days.specs.declared.refusal.Refusal.{Refusal}
+use Rattle.days.specs.declared.refusal.Refusal.TheVariants.{NoSuchDate, OutOfRange, BadInput, NoSuchWeekday, LastBeforeFirst, BadCondition, ListTooShort, NoExtraMonth, BadLength, BadChecksum, BadIndex, NotZero, BadDay, BadEdition, BadLine, NoSuchBody}
 
 abbrev pub accepted : ℕ
 accepted = 0
@@ -60,3 +62,41 @@ bad_line = 15
 -- a body's number above 8
 abbrev pub no_such_body : ℕ
 no_such_body = 16
+
+abbrev pub refusal_number : Refusal → ℕ
+refusal_number NoSuchDate = no_such_date
+refusal_number OutOfRange = out_of_range
+refusal_number BadInput = bad_input
+refusal_number NoSuchWeekday = no_such_weekday
+refusal_number LastBeforeFirst = last_before_first
+refusal_number BadCondition = bad_condition
+refusal_number ListTooShort = list_too_short
+refusal_number NoExtraMonth = no_extra_month
+refusal_number BadLength = bad_length
+refusal_number BadChecksum = bad_checksum
+refusal_number BadIndex = bad_index
+refusal_number NotZero = not_zero
+refusal_number BadDay = bad_day
+refusal_number BadEdition = bad_edition
+refusal_number BadLine = bad_line
+refusal_number NoSuchBody = no_such_body
+
+-- of an answer: 0, or the number of its refusal
+unfoldable pub result_number : {A : Type 0} → Result A Refusal → ℕ
+result_number (Ok _) = accepted
+result_number (Err r) = refusal_number r
+
+-- its number, and 0 of a refusal
+unfoldable pub number_or_zero : Result ℕ Refusal → ℕ
+number_or_zero (Ok n) = n
+number_or_zero (Err _) = 0
+
+-- a number of what is told, and 0 of a refusal
+abbrev pub part_or_zero : {A : Type 0} → (A → ℕ) → Result A Refusal → ℕ
+part_or_zero part (Ok a) = part a
+part_or_zero part (Err _) = 0
+
+-- what follows an answer; a refusal stands
+abbrev pub and_then : {A B : Type 0} → Result A Refusal → (A → Result B Refusal) → Result B Refusal
+and_then (Ok a) follow = follow a
+and_then (Err r) follow = Err r

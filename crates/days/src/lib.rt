@@ -4,56 +4,17 @@
 pub mod refusal;
 
 ghost use Rattle.std.specs.Prelude.{◌≡◌};
-ghost use Rattle.days.specs.Days.{the_number, no_number, in_range, pair_at, day_of, pair_of, number_of, julian_day_of, weekday_of, next_of, span_refusal};
+ghost use Rattle.days.specs.Days.{in_range, pair_at, day_of, pair_of, number_of, julian_day_of, weekday_on, weekday_of, next_of, check_span};
 ghost use Rattle.days.specs.Weekdays.{bit_of, in_set};
+
+use refusal::Refusal;
 
 // A cycle from 0 to 99 and a day within it from 0 to 4015: paper 01's pair (C, A). Any other pair is refused wherever
 // it is taken.
-#[derive(Clone, Copy)]
+#[derive(Clone, Copy, Debug, PartialEq, Eq)]
 pub struct Day {
     pub cycle: u32,
     pub within: u32,
-}
-
-// An answer is a refusal's number, or 0, beside the values; a refusal has all zeros.
-#[derive(Clone, Copy)]
-pub struct DayAnswer {
-    pub refusal: u32,
-    pub day: Day,
-}
-
-#[derive(Clone, Copy)]
-pub struct NumberAnswer {
-    pub refusal: u32,
-    pub number: u32,
-}
-
-const NO_DAY: DayAnswer = DayAnswer {
-    refusal: refusal::OUT_OF_RANGE,
-    day: Day {
-        cycle: 0,
-        within: 0,
-    },
-};
-
-impl NumberAnswer {
-    pub const OUT_OF_RANGE: NumberAnswer = NumberAnswer {
-        refusal: refusal::OUT_OF_RANGE,
-        number: 0,
-    };
-
-    pub fn accepted(number: u32) -> NumberAnswer
-        ensures { result ≡ the_number number }
-    {
-        let refusal = refusal::NONE;
-        NumberAnswer { refusal, number }
-    }
-
-    pub fn refused(refusal: u32) -> NumberAnswer
-        ensures { result ≡ no_number refusal }
-    {
-        NumberAnswer { refusal, number: 0 }
-    }
 }
 
 impl Day {
@@ -74,17 +35,14 @@ impl Day {
 
     pub const LAST: u32 = Day::CYCLES * Day::CYCLE_DAYS - 1;
 
-    pub fn from_number(number: u32) -> DayAnswer
+    #[tactic(auto, unfolding(crate::specs::Days::day_of))]
+    pub fn from_number(number: u32) -> Result<Day, Refusal>
         ensures { result ≡ day_of number }
     {
         if number <= Day::LAST {
-            let day = Day::at(number);
-            DayAnswer {
-                refusal: refusal::NONE,
-                day,
-            }
+            Ok(Day::at(number))
         } else {
-            NO_DAY
+            Err(Refusal::OutOfRange)
         }
     }
 
@@ -98,121 +56,99 @@ impl Day {
         }
     }
 
-    pub fn from_pair(cycle: u32, within: u32) -> DayAnswer
+    #[tactic(auto, unfolding(crate::specs::Days::pair_of))]
+    pub fn from_pair(cycle: u32, within: u32) -> Result<Day, Refusal>
         ensures { result ≡ pair_of cycle within }
     {
         let day = Day { cycle, within };
         if day.in_range() {
-            DayAnswer {
-                refusal: refusal::NONE,
-                day,
-            }
+            Ok(day)
         } else {
-            NO_DAY
+            Err(Refusal::OutOfRange)
         }
     }
 
+    #[tactic(auto, unfolding(crate::specs::Days::in_range))]
     pub fn in_range(self) -> bool
         ensures { result ≡ in_range self }
     {
-        if self.cycle < Day::CYCLES {
-            self.within < Day::CYCLE_DAYS
-        } else {
-            false
-        }
+        self.cycle < Day::CYCLES && self.within < Day::CYCLE_DAYS
     }
 
-    pub fn number(self) -> NumberAnswer
+    #[tactic(auto, unfolding(crate::specs::Days::answer_on, crate::specs::Days::in_range))]
+    pub fn number(self) -> Result<u32, Refusal>
         ensures { result ≡ number_of self }
     {
         if self.in_range() {
             let number = Day::CYCLE_DAYS * self.cycle + self.within;
-            NumberAnswer {
-                refusal: refusal::NONE,
-                number,
-            }
+            Ok(number)
         } else {
-            NumberAnswer::OUT_OF_RANGE
+            Err(Refusal::OutOfRange)
         }
     }
 
-    pub fn julian_day(self) -> NumberAnswer
+    #[tactic(auto, unfolding(crate::specs::Days::answer_on, crate::specs::Days::in_range))]
+    pub fn julian_day(self) -> Result<u32, Refusal>
         ensures { result ≡ julian_day_of self }
     {
-        if self.in_range() {
-            let day = self.number();
-            let since = day.number - Day::FIRST;
-            let number = Day::EPOCH_JULIAN_DAY + since;
-            NumberAnswer::accepted(number)
-        } else {
-            NumberAnswer::OUT_OF_RANGE
-        }
+        let number = self.number()?;
+        let since = number - Day::FIRST;
+        let julian_day = Day::EPOCH_JULIAN_DAY + since;
+        Ok(julian_day)
     }
 
     // 0 Monday to 6 Sunday.
-    pub fn weekday(self) -> NumberAnswer
+    #[tactic(auto, unfolding(crate::specs::Days::answer_on))]
+    pub fn weekday(self) -> Result<u32, Refusal>
         ensures { result ≡ weekday_of self }
     {
-        if self.in_range() {
-            let day = self.number();
-            let number = day.number % 7;
-            NumberAnswer {
-                refusal: refusal::NONE,
-                number,
-            }
-        } else {
-            NumberAnswer::OUT_OF_RANGE
-        }
+        self.number().map(weekday_on)
     }
 
     // The day after it: paper 01's step.
-    pub fn next(self) -> DayAnswer
+    #[tactic(auto, unfolding(crate::specs::Days::next_of, crate::specs::Days::in_range, crate::specs::Days::day_of))]
+    pub fn next(self) -> Result<Day, Refusal>
         ensures { result ≡ next_of self }
     {
-        if self.in_range() {
-            if self.within < Day::CYCLE_DAYS - 1 {
-                let within = self.within + 1;
-                DayAnswer {
-                    refusal: refusal::NONE,
-                    day: Day {
-                        cycle: self.cycle,
-                        within,
-                    },
-                }
-            } else if self.cycle < Day::CYCLES - 1 {
-                let cycle = self.cycle + 1;
-                DayAnswer {
-                    refusal: refusal::NONE,
-                    day: Day { cycle, within: 0 },
-                }
-            } else {
-                NO_DAY
-            }
+        if !self.in_range() {
+            return Err(Refusal::OutOfRange);
+        }
+        if self.within < Day::CYCLE_DAYS - 1 {
+            let within = self.within + 1;
+            Ok(Day { within, ..self })
+        } else if self.cycle < Day::CYCLES - 1 {
+            let cycle = self.cycle + 1;
+            Ok(Day { cycle, within: 0 })
         } else {
-            NO_DAY
+            Err(Refusal::OutOfRange)
         }
     }
 }
 
-// Why a span of days is refused, or 0.
-pub fn span_refusal(first: u32, last: u32) -> u32
-    ensures { result ≡ span_refusal first last }
+// The weekday of the day with this number: 0 Monday to 6 Sunday.
+pub fn weekday_on(number: u32) -> u32
+    ensures { result ≡ weekday_on number }
 {
-    if Day::LAST < first {
-        return refusal::OUT_OF_RANGE;
-    }
-    if Day::LAST < last {
-        return refusal::OUT_OF_RANGE;
+    number % 7
+}
+
+// Refuses a span whose ends are not both days, or whose last day is before its first.
+#[tactic(auto, unfolding(crate::specs::Days::answer_over))]
+pub fn check_span(first: u32, last: u32) -> Result<(), Refusal>
+    ensures { result ≡ check_span first last }
+{
+    if Day::LAST < first || Day::LAST < last {
+        return Err(Refusal::OutOfRange);
     }
     if last < first {
-        refusal::LAST_BEFORE_FIRST
-    } else {
-        refusal::NONE
+        return Err(Refusal::LastBeforeFirst);
     }
+    Ok(())
 }
 
 // A weekday's bit in a set of weekdays, Monday's the lowest. A number that is no weekday has the bit behind the seven,
 // which makes any set one that is refused.
+#[tactic(auto, using(crate::proofs::Weekdays::bit_shifted))]
 pub fn weekday_bit(weekday: u32) -> u32
     ensures { result ≡ bit_of weekday }
 {
@@ -220,11 +156,9 @@ pub fn weekday_bit(weekday: u32) -> u32
 }
 
 // Whether a set of weekdays has a weekday. It has no other number.
+#[tactic(auto, unfolding(crate::specs::Weekdays::in_set))]
 pub fn set_has(set: u32, weekday: u32) -> bool
     ensures { result ≡ in_set set weekday }
 {
-    if 6 < weekday {
-        return false;
-    }
-    (set >> weekday) % 2 == 1
+    weekday <= 6 && (set >> weekday) % 2 == 1
 }

@@ -1,4 +1,48 @@
-// The refusals by number: paper 01's, and from 8 on paper 02's.
+// Why a call is refused: paper 01's refusals, and from the extra month on paper 02's.
+ghost use Rattle.std.specs.Prelude.{◌≡◌};
+ghost use Rattle.days.specs.Refusals.{refusal_number, result_number};
+
+#[derive(Clone, Copy, Debug, PartialEq, Eq)]
+pub enum Refusal {
+    NoSuchDate = 1,
+    OutOfRange,
+    BadInput,
+    NoSuchWeekday,
+    LastBeforeFirst,
+    BadCondition,
+    ListTooShort,
+    NoExtraMonth,
+    BadLength,
+    BadChecksum,
+    BadIndex,
+    NotZero,
+    BadDay,
+    BadEdition,
+    BadLine,
+    NoSuchBody,
+}
+
+impl Refusal {
+    // Its number, which C calls hand back and programs print. No refusal has 0.
+    pub fn number(self) -> u32
+        ensures { result ≡ refusal_number self }
+    {
+        self as u32
+    }
+}
+
+// Of a call's answer: 0, or its refusal's number.
+#[tactic(auto, unfolding(crate::specs::Refusals::result_number))]
+pub fn result_number<T: Copy>(answer: Result<T, Refusal>) -> u32
+    ensures { result ≡ result_number answer }
+{
+    match answer {
+        Ok(_) => NONE,
+        Err(refusal) => refusal.number(),
+    }
+}
+
+// The refusals by number.
 pub const NONE: u32 = 0;
 
 pub const NO_SUCH_DATE: u32 = 1;

@@ -1,54 +1,50 @@
 // Reads a span of days and prints how far the mean Sun, Moon and Moon's apogee are from the older books' over it.
 #![tactic(auto)]
 
+ghost use Rattle.std.specs.Prelude.{◌≡◌};
 ghost use Rattle.output.specs.Output.{AllWritten};
-ghost use Rattle.text.specs.Sheets.{Between};
-ghost use Rattle.drift_sheet.specs.DriftSheets.{drift_lines_for};
+ghost use Rattle.drift_sheet.specs.DriftSheets.{drift_lines, drift_lines_for};
 
-use output::Written;
-use text::PIECE;
+use days::refusal::Refusal;
+use older_motions::Drifts;
+use output::{NotWritten, Sheet};
+use text::Line;
 
-// The only way to print. By what it requires the bytes are the sheet's from one line to before another.
-fn print_between(input: &[u8], from: usize, to: usize, bytes: &[u8]) -> bool
-    requires { Between (drift_lines_for input.now) from to bytes.now }
-{
-    output::print_bytes(bytes)
+// The sheet of what was read.
+#[derive(Clone, Copy)]
+struct DriftSheet {
+    drifts: Result<Drifts, Refusal>,
 }
 
-// As many lines as fit whole are put into the buffer and printed at once.
-fn print_drifts(input: &[u8]) -> Written
+impl Sheet for DriftSheet {
+    ghost lines = { λ s. drift_lines s.drifts };
+
+    fn line_count(&self) -> usize {
+        drift_sheet::line_count(self.drifts)
+    }
+
+    fn line(&self, index: usize) -> Line {
+        drift_sheet::line(self.drifts, index)
+    }
+}
+
+// The only way to print. By what it requires the sheet is the input's.
+fn print_lines(input: &[u8], sheet: &DriftSheet) -> Result<usize, NotWritten>
+    requires { drift_lines sheet.now.drifts ≡ drift_lines_for input.now }
+    ensures { AllWritten (drift_lines_for input.now) result }
+{
+    output::print_sheet(sheet)
+}
+
+fn print_drifts(input: &[u8]) -> Result<usize, NotWritten>
     ensures { AllWritten (drift_lines_for input.now) result }
 {
     let drifts = drift_sheet::read_drifts(input);
-    let lines = drift_sheet::line_count(drifts);
-    let mut buffer = [0u8; PIECE];
-    let mut from: usize = 0;
-    let mut bytes: usize = 0;
-    let mut index: usize = 0;
-    while index < lines {
-        let line = drift_sheet::line(drifts, index);
-        let len = line.len;
-        if PIECE - bytes < len {
-            if !print_between(input, from, index, &buffer[..bytes]) {
-                return Written {
-                    lines: from,
-                    whole: false,
-                };
-            }
-            from = index;
-            bytes = 0;
-        }
-        line.put(&mut buffer, bytes);
-        bytes += len;
-        index += 1;
-    }
-    let whole = print_between(input, from, lines, &buffer[..bytes]);
-    Written { lines, whole }
+    print_lines(input, &DriftSheet { drifts })
 }
 
 fn main(rt: HostRuntime) {
     let mut stdin = rt.stdin();
     let mut buffer = [0u8; text::TOO_LONG];
-    let n = input::read_input(&mut stdin, &mut buffer);
-    print_drifts(&buffer[..n]);
+    let _ = print_drifts(input::read_bytes(&mut stdin, &mut buffer));
 }

@@ -1,3 +1,2 @@
-pub mod Lines
 mod Fitting
 pub mod Worked

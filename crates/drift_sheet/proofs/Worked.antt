@@ -6,7 +6,7 @@ use mathlib.Core.List.{[], ◌∷◌}
 use Rattle.civil.specs.Answers.{date_of_day}
 use Rattle.civil.specs.Calendar.{date_on}
 use Rattle.dated.specs.Dated.{date_bytes, day_bytes}
-use Rattle.days.specs.Days.{days_from, span_refusal}
+use Rattle.days.specs.Days.{days_from, answer_over}
 use Rattle.integers.specs.Integers.{reduced}
 use Rattle.longitudes.specs.Longitudes.{table}
 use Rattle.older_motions.specs.OlderMotions.{sun_motion, moon_motion, apogee_motion, ahead_on, distance_on, largest_over, first_with}
@@ -24,5 +24,5 @@ pub sheets :
     ∷ ascii "refused 2\n"
     ∷ ascii "refused 5\n"
     ∷ []
-unfolding joined drift_lines drift_heading drift_line refusal_line name_at day_bytes date_bytes date_of_day date_on digits_of digits_within drifts_over span_refusal farthest_over distance_on ahead_on sun_motion moon_motion apogee_motion table reduced largest_over first_with days_from
+unfolding joined drift_heading drift_line refusal_line name_at day_bytes date_bytes date_of_day date_on digits_of digits_within answer_over farthest_over distance_on ahead_on sun_motion moon_motion apogee_motion table reduced largest_over first_with days_from
 sheets = refl

@@ -1,12 +1,13 @@
 -- The sheet of the three drifts: from the bytes of the input to the bytes that are printed, a heading and a line for
 -- each of the three, or a refusal.
 -- Assumes nothing.
-use Rattle.std.specs.Prelude.{cond, List, [], ◌∷◌, ◌++◌, ℕ, eqb}
+use Rattle.std.specs.Prelude.{List, [], ◌∷◌, ◌++◌, ℕ, Result, Ok, Err}
 use Rattle.dated.specs.Dated.{day_bytes}
-use Rattle.days.specs.Refusals.{accepted}
+use Rattle.days.specs.declared.refusal.Refusal.{Refusal}
+use Rattle.days.specs.Refusals.{refusal_number}
 use Rattle.older_motions.specs.declared.Farthest.{Farthest}
 use Rattle.older_motions.specs.declared.Drifts.{Drifts}
-use Rattle.older_motions.specs.Drifts.{no_drifts, drifts_over}
+use Rattle.older_motions.specs.Drifts.{drifts_over}
 use Rattle.span_line.specs.declared.Span.{Span}
 use Rattle.span_line.specs.SpanLine.{span_input}
 use Rattle.text.specs.Ascii.{ascii}
@@ -28,17 +29,17 @@ abbrev pub drift_line_of : ℕ → Farthest → List ℕ
 drift_line_of b x = drift_line b x.numerator x.divisor x.day
 
 -- the drifts over the span that an input means; a refusal of the input is theirs
-unfoldable pub drifts_read : List ℕ → Drifts
-drifts_read bs =
-    let span : Span = span_input bs in
-    cond (eqb span.refusal accepted) (drifts_over span.first span.last) (no_drifts span.refusal)
+abbrev pub drifts_of : Result Span Refusal → Result Drifts Refusal
+drifts_of (Ok span) = drifts_over span.first span.last
+drifts_of (Err r) = Err r
+
+abbrev pub drifts_read : List ℕ → Result Drifts Refusal
+drifts_read bs = drifts_of (span_input bs)
 
 -- the lines of a sheet: the heading and the three, or the refusal
-unfoldable pub drift_lines : Drifts → List (List ℕ)
-drift_lines d =
-    cond (eqb d.refusal accepted)
-    (drift_heading ∷ drift_line_of 0 d.sun ∷ drift_line_of 1 d.moon ∷ drift_line_of 2 d.apogee ∷ [])
-    (refusal_line d.refusal ∷ [])
+abbrev pub drift_lines : Result Drifts Refusal → List (List ℕ)
+drift_lines (Ok d) = drift_heading ∷ drift_line_of 0 d.sun ∷ drift_line_of 1 d.moon ∷ drift_line_of 2 d.apogee ∷ []
+drift_lines (Err r) = refusal_line (refusal_number r) ∷ []
 
 -- the lines that are printed for an input
 abbrev pub drift_lines_for : List ℕ → List (List ℕ)

@@ -4,23 +4,20 @@
 ghost use Rattle.std.specs.Prelude.{◌≡◌, length};
 ghost use Rattle.text.specs.Lines.{Holds};
 ghost use Rattle.text.specs.Sheets.{line_at};
-ghost use Rattle.drift_sheet.specs.DriftSheets.{drift_heading, drift_line, drifts_read, drift_lines};
+ghost use Rattle.drift_sheet.specs.DriftSheets.{drift_heading, drift_line_of, drifts_read, drift_lines};
 
-use days::refusal;
-use older_motions::Drifts;
+use days::refusal::Refusal;
+use older_motions::{Drifts, Farthest};
 use text::Line;
 
 // The heading, and a line for each of the three.
 pub const LINES: usize = 4;
 
 // The drifts over an input's span.
-pub fn read_drifts(input: &[u8]) -> Drifts
+pub fn read_drifts(input: &[u8]) -> Result<Drifts, Refusal>
     ensures { result ≡ drifts_read input.now }
 {
-    let span = span_line::of_input(input);
-    if span.refusal != refusal::NONE {
-        return older_motions::no_drifts(span.refusal);
-    }
+    let span = span_line::of_input(input)?;
     older_motions::drift(span.first, span.last)
 }
 
@@ -30,49 +27,41 @@ fn heading() -> Line
     Line::empty().text(b"body numerator divisor day date\n")
 }
 
-fn body_line(body: usize, numerator: u64, divisor: u64, day: u32) -> Line
-    ensures { Holds result (drift_line body numerator divisor day) }
+fn body_line(body: usize, farthest: Farthest) -> Line
+    ensures { Holds result (drift_line_of body farthest) }
 {
     let names = words::BODY_NAMES;
     let name = words::name_at(&names, body);
     let fraction = Line::empty()
         .text(name)
         .byte(b' ')
-        .wide_number(numerator)
+        .wide_number(farthest.numerator)
         .byte(b' ')
-        .wide_number(divisor)
+        .wide_number(farthest.divisor)
         .byte(b' ');
-    dated::put_day(fraction, day).byte(b'\n')
+    dated::put_day(fraction, farthest.day).byte(b'\n')
 }
 
 // How many lines are printed for drifts; a refusal is one.
-pub fn line_count(drifts: Drifts) -> usize
+pub fn line_count(drifts: Result<Drifts, Refusal>) -> usize
     ensures { result ≡ length (drift_lines drifts) }
 {
-    if drifts.refusal != refusal::NONE {
-        return 1;
+    match drifts {
+        Ok(_) => LINES,
+        Err(_) => 1,
     }
-    LINES
 }
 
 // One of the lines that are printed for drifts, counted from 0; behind the last one nothing.
-pub fn line(drifts: Drifts, index: usize) -> Line
+pub fn line(drifts: Result<Drifts, Refusal>, index: usize) -> Line
     ensures { Holds result (line_at (drift_lines drifts) index) }
 {
-    if drifts.refusal != refusal::NONE {
-        if index == 0 {
-            return text::refusal_line(drifts.refusal);
-        }
-        return Line::empty();
-    }
-    let sun = drifts.sun;
-    let moon = drifts.moon;
-    let apogee = drifts.apogee;
-    match index {
-        0 => heading(),
-        1 => body_line(0, sun.numerator, sun.divisor, sun.day),
-        2 => body_line(1, moon.numerator, moon.divisor, moon.day),
-        3 => body_line(2, apogee.numerator, apogee.divisor, apogee.day),
+    match (drifts, index) {
+        (Ok(_), 0) => heading(),
+        (Ok(drifts), 1) => body_line(0, drifts.sun),
+        (Ok(drifts), 2) => body_line(1, drifts.moon),
+        (Ok(drifts), 3) => body_line(2, drifts.apogee),
+        (Err(refusal), 0) => text::refusal_line(refusal.number()),
         _ => Line::empty(),
     }
 }

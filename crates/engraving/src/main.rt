@@ -2,53 +2,39 @@
 #![tactic(auto)]
 
 ghost use Rattle.output.specs.Output.{AllWritten};
-ghost use Rattle.text.specs.Sheets.{Between};
 ghost use Rattle.plate.specs.Plates.{plate_lines};
 
-use output::Written;
-use text::PIECE;
+use output::{NotWritten, Sheet};
+use text::Line;
 
-// The only way to print. By what it requires the bytes are the sheet's from one line to before another.
-fn print_between(input: &[u8], from: usize, to: usize, bytes: &[u8]) -> bool
-    requires { Between (plate_lines input.now) from to bytes.now }
-{
-    output::print_bytes(bytes)
+// The plate of an input.
+#[derive(Clone, Copy)]
+struct Plate<'a> {
+    input: &'a [u8],
 }
 
-// As many lines as fit whole are put into the buffer and printed at once.
-fn print_plate(input: &[u8]) -> Written
+impl<'a> Sheet for Plate<'a> {
+    ghost lines = { λ s. plate_lines s.input.now };
+
+    fn line_count(&self) -> usize {
+        plate::line_count(self.input)
+    }
+
+    fn line(&self, index: usize) -> Line {
+        plate::line(self.input, index)
+    }
+}
+
+// The only way to print.
+fn print_plate(input: &[u8]) -> Result<usize, NotWritten>
     ensures { AllWritten (plate_lines input.now) result }
 {
-    let lines = plate::line_count(input);
-    let mut buffer = [0u8; PIECE];
-    let mut from: usize = 0;
-    let mut bytes: usize = 0;
-    let mut index: usize = 0;
-    while index < lines {
-        let line = plate::line(input, index);
-        let len = line.len;
-        if PIECE - bytes < len {
-            if !print_between(input, from, index, &buffer[..bytes]) {
-                return Written {
-                    lines: from,
-                    whole: false,
-                };
-            }
-            from = index;
-            bytes = 0;
-        }
-        line.put(&mut buffer, bytes);
-        bytes += len;
-        index += 1;
-    }
-    let whole = print_between(input, from, lines, &buffer[..bytes]);
-    Written { lines, whole }
+    output::print_sheet(&Plate { input })
 }
 
 // A good input has at most seven bytes: the eighth shows a longer one.
 fn main(rt: HostRuntime) {
     let mut stdin = rt.stdin();
     let mut buffer = [0u8; 8];
-    let n = input::read_input(&mut stdin, &mut buffer);
-    print_plate(&buffer[..n]);
+    let _ = print_plate(input::read_bytes(&mut stdin, &mut buffer));
 }

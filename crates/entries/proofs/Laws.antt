@@ -9,7 +9,7 @@ use lib.Dec.{ltb}
 use borrow.Author.Tests.{lt-ltb, ltb-true}
 use lib.ListN.{length, get_or, take, drop, set, length-append, length-take, length-drop}
 use lib.Seq.{take_at, drop_at, drop-drop}
-use Rattle.days.specs.Days.{the_number}
+use Rattle.std.specs.Prelude.{Ok}
 use Rattle.entries.specs.Entries.{entry, entries, capacity, with_entry, with_entries, entry_day, entry_at}
 
 pub entry_length : (d : ℕ) → length (entry d) ≡ 4
@@ -112,7 +112,7 @@ read-entry (d ∷ ds) l (suc k) h s =
     ap (λ (t : List ℕ). entry_day t (suc k)) (append_assoc (entry d) (entries ds) l) ∙ later d (entries ds ++ l) k ∙ read-entry ds l k (omega arith) s
 
 pub entries-read :
-    (ds l : List ℕ) (k : ℕ) → length ds ≤ capacity l → k < length ds → get_or ds k 0 < 4294967296 → entry_at (with_entries ds l) k ≡ the_number (get_or ds k 0)
+    (ds l : List ℕ) (k : ℕ) → length ds ≤ capacity l → k < length ds → get_or ds k 0 < 4294967296 → entry_at (with_entries ds l) k ≡ Ok (get_or ds k 0)
 unfolding entry_at
 entries-read ds l k fits h s =
     let whole = with-entries-length ds l fits in

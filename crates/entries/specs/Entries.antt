@@ -1,10 +1,9 @@
 -- A list of days as bytes: four a day, low byte first. A tail under four bytes is no entry (paper 01: no place of the
 -- lent list).
 -- Assumes nothing.
-use Rattle.std.specs.Prelude.{cond, List, [], ◌∷◌, ◌++◌, ℕ, ◌+◌, ◌*◌, ◌/◌, ◌%◌, leb, ltb, length, get_or, take, drop}
-use Rattle.days.specs.Refusals.{out_of_range}
-use Rattle.days.specs.Days.{the_number, no_number}
-use Rattle.days.specs.declared.NumberAnswer.{NumberAnswer}
+use Rattle.std.specs.Prelude.{cond, List, [], ◌∷◌, ◌++◌, ℕ, ◌+◌, ◌*◌, ◌/◌, ◌%◌, leb, ltb, length, get_or, take, drop, Result, Ok, Err}
+use Rattle.days.specs.declared.refusal.Refusal.{Refusal}
+use Rattle.days.specs.declared.refusal.Refusal.TheVariants.{OutOfRange}
 
 -- a day's entry
 unfoldable pub entry : ℕ → List ℕ
@@ -41,5 +40,5 @@ entry_day list k =
     get_or list (4 * k) 0 + 256 * get_or list (4 * k + 1) 0 + 65536 * get_or list (4 * k + 2) 0 + 16777216 * get_or list (4 * k + 3) 0
 
 -- the day of entry k, or refusal 2 where the list has no such entry
-unfoldable pub entry_at : List ℕ → ℕ → NumberAnswer
-entry_at list k = cond (ltb k (capacity list)) (the_number (entry_day list k)) (no_number out_of_range)
+unfoldable pub entry_at : List ℕ → ℕ → Result ℕ Refusal
+entry_at list k = cond (ltb k (capacity list)) (Ok (entry_day list k)) (Err OutOfRange)

@@ -1,3 +1,4 @@
 pub mod Entries
 pub mod Runs
 pub mod Listed
+pub mod Told

@@ -6,6 +6,7 @@ use mathlib.Core.Path.{◌≡◌, refl, ap, sym, ◌∙◌}
 use mathlib.Core.Bool.{Bool, true, false, cond}
 use mathlib.Core.List.{List, [], ◌++◌, append_assoc, append-nil}
 use native.Mathlib.Omega.{arith}
+use Rattle.std.specs.Prelude.{Option, None}
 use borrow.Author.Tests.{eqb-true, le-leb}
 use lib.Dec.{eqb}
 use lib.ListN.{length, take, length-append, take-append-drop}
@@ -29,25 +30,34 @@ use Rattle.text.specs.Lines.{contents, Holds, refusal_line}
 use Rattle.text.proofs.Holding.{holds-length}
 use Rattle.text.specs.Sheets.{fits_at, put_at}
 use Rattle.text.proofs.Sheets.{put-length}
-use Rattle.explanation.specs.declared.Element.TheVariants.{Unmet, Other}
 use Rattle.explanation.specs.Explanations.{element_in, elements_in, set_names, element_kind, kind_word, names_text, element_text, unfit, weekdays_text, verdict_of, answer_line, explanation_room}
-use Rattle.explanation.specs.Elements.{element_asked, element_of, element_for, element_line, element_front, element_end}
+use Rattle.explanation.specs.declared.Unmet.{Unmet}
+use Rattle.explanation.specs.Elements.{unmet, element_asked, element_of, element_for, element_line, element_front, element_end}
 use Rattle.explanation.proofs.Fitting.{word-short}
 
 name-short : (kind : Kind) (n : ℕ) → length (name_of kind n) ≤ 19
 name-short kind n = omega (arith, name-fits kind n, column-short kind)
 
 -- ---- which answers are written alike
-no_other : {kind : Kind} {edition asked found : ℕ} → Unmet kind edition asked found ≡ Other → ⊥
+no_other : {kind : Kind} {edition asked found : ℕ} → unmet kind edition asked found ≡ None → ⊥
 no_other e = let z : ◌≡◌ {A = ℕ} 0 1 = cc in omega arith
 
-verdict-alike : (edition : ℕ) (w : Wanted) (k found : ℕ) → element_asked edition w k found ≡ Other → verdict_of ByNames w k found ≡ verdict_of ByNumbers w k found
+-- the parts of one that does not hold
+unmet-parts :
+    {kind kind' : Kind} {edition asked found edition' asked' found' : ℕ} →
+    unmet kind edition asked found ≡ unmet kind' edition' asked' found' →
+    (kind ≡ kind') × (edition ≡ edition') × (asked ≡ asked') × (found ≡ found')
+unmet-parts {kind} {kind'} {edition} {asked} {found} {edition'} {asked'} {found'} e =
+    let same : ◌≡◌ {A = Unmet} (record { kind = kind; edition = edition; asked = asked; found = found }) (record { kind = kind'; edition = edition'; asked = asked'; found = found' }) = cc in
+    (ap (λ (u : Unmet). u.kind) same, ap (λ (u : Unmet). u.edition) same, ap (λ (u : Unmet). u.asked) same, ap (λ (u : Unmet). u.found) same)
+
+verdict-alike : (edition : ℕ) (w : Wanted) (k found : ℕ) → element_asked edition w k found ≡ None → verdict_of ByNames w k found ≡ verdict_of ByNumbers w k found
 unfolding element_asked verdict_of
 verdict-alike edition nothing k found e = refl
 verdict-alike edition (bound day) k found e = refl
 verdict-alike edition (any_of set) k found e = go (eqb k 3) e
   where
-    go : (b : Bool) → cond b Other (Unmet (element_kind k) edition set found) ≡ Other → unfit (cond b (weekdays_text set found) (element_text ByNames k set found)) ≡ unfit (cond b (weekdays_text set found) (element_text ByNumbers k set found))
+    go : (b : Bool) → cond b None (unmet (element_kind k) edition set found) ≡ None → unfit (cond b (weekdays_text set found) (element_text ByNames k set found)) ≡ unfit (cond b (weekdays_text set found) (element_text ByNumbers k set found))
     go true h = refl
     go false h = absurd (no_other h)
 verdict-alike edition (mean_arcs arcs) k found e = refl
@@ -74,42 +84,42 @@ module _ (n : ℕ) (w : Numbers) where
   abbrev verdict : Print → List ℕ
   verdict form = verdict_of form w.cause.asked w.cause.condition w.cause.found
 
-  pub other-alike : element_for w ≡ Other → answer_line ByNames n w ≡ answer_line ByNumbers n w
+  pub other-alike : element_for w ≡ None → answer_line ByNames n w ≡ answer_line ByNumbers n w
   unfolding element_for answer_line
   other-alike e = go (eqb w.refusal 0) e
     where
-      go : (b : Bool) → cond b (element_of w.edition w.cause) Other ≡ Other → cond b (line (verdict ByNames)) (refusal_line w.refusal) ≡ cond b (line (verdict ByNumbers)) (refusal_line w.refusal)
+      go : (b : Bool) → cond b (element_of w.edition w.cause) None ≡ None → cond b (line (verdict ByNames)) (refusal_line w.refusal) ≡ cond b (line (verdict ByNumbers)) (refusal_line w.refusal)
       go true h = ap line (verdict-alike w.edition w.cause.asked w.cause.condition w.cause.found h)
       go false h = refl
 
   -- a refused one is none
-  pub refused-other : {refusal : ℕ} → no_answer refusal ≡ w → Other ≡ element_for w
+  pub refused-other : {refusal : ℕ} → no_answer refusal ≡ w → None ≡ element_for w
   unfolding element_for element_asked
   refused-other {refusal} e = rw (sym e) (go (eqb refusal 0))
     where
-      go : (b : Bool) → Other ≡ cond b Other Other
+      go : (b : Bool) → ◌≡◌ {A = Option Unmet} None (cond b None None)
       go true = refl
       go false = refl
 
   -- and one that is
   module _ {kind : Kind} {edition asked found : ℕ} where
-    element-said : (wanted : Wanted) (k number : ℕ) → element_asked w.edition wanted k number ≡ Unmet kind edition asked found → line (verdict_of ByNames wanted k number) ≡ element_line kind edition asked found n
+    element-said : (wanted : Wanted) (k number : ℕ) → element_asked w.edition wanted k number ≡ unmet kind edition asked found → line (verdict_of ByNames wanted k number) ≡ element_line kind edition asked found n
     unfolding element_asked verdict_of element_text element_line
     element-said nothing k number e = absurd (no_other (sym e))
     element-said (bound day) k number e = absurd (no_other (sym e))
     element-said (any_of set) k number e = go (eqb k 3) e
       where
-        go : (b : Bool) → cond b Other (Unmet (element_kind k) w.edition set number) ≡ Unmet kind edition asked found → line (unfit (cond b (weekdays_text set number) (names_text (element_kind k) set number))) ≡ day_bytes n ++ (unfit (names_text kind asked found) ++ (edition_text edition ++ ascii "\n"))
+        go : (b : Bool) → cond b None (unmet (element_kind k) w.edition set number) ≡ unmet kind edition asked found → line (unfit (cond b (weekdays_text set number) (names_text (element_kind k) set number))) ≡ day_bytes n ++ (unfit (names_text kind asked found) ++ (edition_text edition ++ ascii "\n"))
         go true h = absurd (no_other (sym h))
-        go false h = cc
+        go false h = let s = unmet-parts h in cc (s.0, s.1, s.2, s.3)
     element-said (mean_arcs arcs) k number e = absurd (no_other (sym e))
     element-said (true_arcs arcs) k number e = absurd (no_other (sym e))
 
-    pub unmet-said : element_for w ≡ Unmet kind edition asked found → (w.refusal ≡ 0) × (answer_line ByNames n w ≡ element_line kind edition asked found n)
+    pub unmet-said : element_for w ≡ unmet kind edition asked found → (w.refusal ≡ 0) × (answer_line ByNames n w ≡ element_line kind edition asked found n)
     unfolding element_for answer_line
     unmet-said e = go (eqb w.refusal 0) refl e
       where
-        go : (b : Bool) → eqb w.refusal 0 ≡ b → cond b (element_of w.edition w.cause) Other ≡ Unmet kind edition asked found → (w.refusal ≡ 0) × (cond b (line (verdict ByNames)) (refusal_line w.refusal) ≡ element_line kind edition asked found n)
+        go : (b : Bool) → eqb w.refusal 0 ≡ b → cond b (element_of w.edition w.cause) None ≡ unmet kind edition asked found → (w.refusal ≡ 0) × (cond b (line (verdict ByNames)) (refusal_line w.refusal) ≡ element_line kind edition asked found n)
         go true t h = (eqb-true _ _ t, element-said w.cause.asked w.cause.condition w.cause.found h)
         go false t h = absurd (no_other (sym h))
 

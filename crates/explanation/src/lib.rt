@@ -21,16 +21,13 @@ use text::Line;
 pub const ROOM: usize = 1024;
 
 // A condition of an element that does not hold, by the edition in which it was looked at, and the numbers asked and
-// found; or any other answer.
+// found.
 #[derive(Clone, Copy)]
-enum Element {
-    Unmet {
-        kind: Kind,
-        edition: u32,
-        asked: u32,
-        found: u32,
-    },
-    Other,
+struct Unmet {
+    kind: Kind,
+    edition: u32,
+    asked: u32,
+    found: u32,
 }
 
 // A weekday's name behind a space, where the set has it.
@@ -51,10 +48,8 @@ fn put_names(line: Line, set: u32) -> Line
     ensures { result ≡ with_bytes line (names_in set seven_days) }
 {
     let mut made = line;
-    let mut weekday = 0;
-    while weekday < 7 {
+    for weekday in 0..7 {
         made = put_name(made, set, weekday);
-        weekday += 1;
     }
     made
 }
@@ -86,10 +81,8 @@ fn put_set(line: Line, set: u32) -> Line
     ensures { result ≡ with_bytes line (set_bytes set) }
 {
     let mut made = line;
-    let mut number = 0;
-    while number < 30 {
+    for number in 0..30 {
         made = put_number(made, set, number);
-        number += 1;
     }
     made
 }
@@ -170,65 +163,65 @@ pub fn line(query: Query, day: u32) -> Line
     ensures { Holds result (explanation_of Print.Numbers query day) }
 {
     match reasons::why(query, day) {
-        Answer::Refused(refusal) => text::refusal_line(refusal),
-        Answer::Told { edition, reason } => {
+        Err(refusal) => text::refusal_line(refusal.number()),
+        Ok(Answer { edition, reason }) => {
             let told = put_verdict(put_day(Line::empty(), day), reason);
             catalogue::with_edition(told, edition).byte(b'\n')
         }
     }
 }
 
-fn element_of(edition: u32, reason: Reason) -> Element
+fn element_of(edition: u32, reason: Reason) -> Option<Unmet>
     ensures { result ≡ element_of edition (cause_of reason) }
 {
     match reason {
-        Reason::Fits => Element::Other,
-        Reason::BeforeSpan { first: _, day: _ } => Element::Other,
-        Reason::AfterSpan { last: _, day: _ } => Element::Other,
-        Reason::Weekday { asked: _, found: _ } => Element::Other,
-        Reason::Tithi { asked, found } => Element::Unmet {
+        Reason::Fits => None,
+        Reason::BeforeSpan { first: _, day: _ } => None,
+        Reason::AfterSpan { last: _, day: _ } => None,
+        Reason::Weekday { asked: _, found: _ } => None,
+        Reason::Tithi { asked, found } => Some(Unmet {
             kind: Kind::Tithi,
             edition,
             asked,
             found,
-        },
-        Reason::Nakshatra { asked, found } => Element::Unmet {
+        }),
+        Reason::Nakshatra { asked, found } => Some(Unmet {
             kind: Kind::Nakshatra,
             edition,
             asked,
             found,
-        },
-        Reason::Yoga { asked, found } => Element::Unmet {
+        }),
+        Reason::Yoga { asked, found } => Some(Unmet {
             kind: Kind::Yoga,
             edition,
             asked,
             found,
-        },
-        Reason::Karana { asked, found } => Element::Unmet {
+        }),
+        Reason::Karana { asked, found } => Some(Unmet {
             kind: Kind::Karana,
             edition,
             asked,
             found,
-        },
+        }),
         Reason::Arcs {
             body: _,
             asked: _,
             found: _,
-        } => Element::Other,
+        } => None,
         Reason::TrueArcs {
             place: _,
             asked: _,
             found: _,
-        } => Element::Other,
+        } => None,
     }
 }
 
-fn element_for(query: Query, day: u32) -> Element
+fn element_for(query: Query, day: u32) -> Option<Unmet>
     ensures { result ≡ element_for (why_of query day) }
 {
     match reasons::why(query, day) {
-        Answer::Refused(_) => Element::Other,
-        Answer::Told { edition, reason } => element_of(edition, reason),
+        Err(_) => None,
+        Ok(Answer { edition, reason }) => element_of(edition, reason),
     }
 }
 
@@ -293,10 +286,8 @@ fn put_set_names(kind: Kind, set: u32, buffer: &mut [u8], from: usize) -> usize
     ensures buffer_after { buffer.new ≡ put_at buffer.old from (set_names kind set) }
 {
     let mut at = from;
-    let mut element = 0;
-    while element < 30 {
+    for element in 0..30 {
         at = put(element_in(kind, set, element), buffer, at);
-        element += 1;
     }
     at
 }
@@ -338,13 +329,15 @@ fn put_named(query: Query, day: u32, buffer: &mut [u8; ROOM]) -> usize
     ensures upper_bound { result ≤ explanation_room }
 {
     match element_for(query, day) {
-        Element::Unmet {
-            kind,
-            edition,
-            asked,
-            found,
-        } => put_element(kind, edition, asked, found, day, buffer),
-        Element::Other => put_front(line(query, day), buffer),
+        Some(
+            Unmet {
+                kind,
+                edition,
+                asked,
+                found,
+            },
+        ) => put_element(kind, edition, asked, found, day, buffer),
+        None => put_front(line(query, day), buffer),
     }
 }
 

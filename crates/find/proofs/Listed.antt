@@ -1,7 +1,7 @@
 -- What a search leaves for a page's query that is not refused: the two numbers of the heading, and, where the list has
 -- enough entries, the matching days and no more in its first entries, each a day whose line fits. By the clauses of the
 -- search's promises, for the query that is searched with, which has the same matching days. Assumes nothing.
-use mathlib.Core.Path.{◌≡◌, ap, ap₂, ◌∙◌}
+use mathlib.Core.Path.{◌≡◌, ap, ap₂, sym, ◌∙◌}
 use mathlib.Core.Bool.{true}
 use mathlib.Core.List.{List}
 use Prim.Native.Nat.{ℕ, ◌*◌, ◌≤◌}
@@ -14,12 +14,17 @@ use Rattle.names.specs.declared.Print.{Print}
 use Rattle.query.specs.declared.Query.{Query}
 use Rattle.query.specs.Query.{refusal_of}
 use Rattle.query.specs.SunArcs.{with_sun_arcs}
-use Rattle.query.proofs.Accepted.{accepted-by}
+use Rattle.query.proofs.Accepted.{accepted-by, accepts-check}
 use Rattle.query.proofs.SunArcs.{same-refusal}
+use Rattle.std.specs.Prelude.{Result, Ok}
+use Rattle.std.specs.Result.{is_ok}
+use Rattle.days.specs.declared.refusal.Refusal.{Refusal}
+use Rattle.days.specs.Refusals.{part_or_zero}
 use Rattle.search.specs.declared.Found.{Found}
+use Rattle.search.specs.declared.SearchError.{SearchError}
 use Rattle.search.specs.Days.{matching_days, visited_days}
 use Rattle.search.proofs.SunArcs.{same-matching}
-use Rattle.search.specs.Search.{result_of, list_after, first_listed, Measured, Searched}
+use Rattle.search.specs.Search.{result_of, list_after, first_listed, found_in, measured_of, in_room, in_room_of, searched_of, search_found, Measured, Searched}
 use Rattle.entries.specs.Entries.{entries, capacity, with_entries}
 use Rattle.entries.specs.Listed.{listed_from}
 use Rattle.entries.proofs.Laws.{entries-length}
@@ -43,22 +48,52 @@ module _ (q : Query) (e : refusal_of q ≡ 0) where
   same : matching_days (with_sun_arcs q) ≡ matching_days q
   same = same-matching q e
 
-  -- by a search of a list with enough entries
-  pub by-search : (list : List ℕ) (found : Found) (after : List ℕ) → Searched (with_sun_arcs q) list found after → length (matching_days q) ≤ capacity list → Filled q list found.length after
-  unfolding result_of list_after
-  by-search list found after s fits =
+  abbrev found : Found
+  found = found_in (with_sun_arcs q)
+
+  answered : measured_of (with_sun_arcs q) ≡ Ok found
+  answered = rw (accepts-check (with_sun_arcs q) (same-refusal q ∙ e))
+
+  -- a search of a list with enough entries is not refused
+  searched : (list : List ℕ) → length (matching_days q) ≤ capacity list → searched_of (with_sun_arcs q) (capacity list) ≡ Ok found
+  unfolding in_room_of in_room
+  searched list fits = rw (answered, same, le-leb (length (matching_days q)) (capacity list) fits)
+
+  pub search-there :
+      (list : List ℕ) (answer : Result Found SearchError) (after : List ℕ) →
+      Searched (with_sun_arcs q) list answer after →
+      length (matching_days q) ≤ capacity list →
+      is_ok answer ≡ true
+  search-there list answer after s fits = rw (s.answer ∙ searched list fits)
+
+  -- by such a search
+  pub by-search :
+      (list : List ℕ) (answer : Result Found SearchError) (told : Found) (after : List ℕ) →
+      Searched (with_sun_arcs q) list answer after →
+      answer ≡ Ok told →
+      length (matching_days q) ≤ capacity list →
+      Filled q list told.length after
+  unfolding result_of list_after search_found
+  by-search list answer told after s is fits =
       let enough = le-leb (length (matching_days q)) (capacity list) fits in
-      record { count = s.count ∙ rw (good, same); written = s.list ∙ rw (same, good, enough) }
+      record {
+        count = ap (λ (a : Result Found SearchError). (search_found a).length) (sym is ∙ s.answer ∙ searched list fits) ∙ ap length same;
+        written = s.list ∙ rw (same, good, enough);
+      }
 
-  module _ (found : Found) (m : Measured (with_sun_arcs q) found) where
-    pub count : found.length ≡ length (matching_days q)
-    count = m.count ∙ rw (good, same)
+  -- without a list too
+  pub measure-there : (answer : Result Found Refusal) → Measured (with_sun_arcs q) answer → is_ok answer ≡ true
+  measure-there answer m = rw (m.answer ∙ answered)
 
-    pub visits : found.examined ≡ length (visited_days (with_sun_arcs q))
-    visits = m.visits ∙ rw good
+  module _ (answer : Result Found Refusal) (told : Found) (m : Measured (with_sun_arcs q) answer) (is : answer ≡ Ok told) where
+    pub count : told.length ≡ length (matching_days q)
+    count = ap (part_or_zero (λ (f : Found). f.length)) (sym is ∙ m.answer ∙ answered) ∙ ap length same
+
+    pub visits : told.examined ≡ length (visited_days (with_sun_arcs q))
+    visits = ap (part_or_zero (λ (f : Found). f.examined)) (sym is ∙ m.answer ∙ answered)
 
     -- by the first search, where they are no more than the list's entries
-    pub by_first : (list after : List ℕ) → after ≡ first_listed (with_sun_arcs q) list → found.length ≤ capacity list → Filled q list found.length after
+    pub by_first : (list after : List ℕ) → after ≡ first_listed (with_sun_arcs q) list → told.length ≤ capacity list → Filled q list told.length after
     unfolding first_listed
     by_first list after put fits =
         record { count = count; written = put ∙ rw (good, same) (put_all (matching_days q) list (omega (arith, count))) }

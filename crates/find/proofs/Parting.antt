@@ -12,7 +12,11 @@ use Rattle.query.specs.declared.Query.{Query}
 use Rattle.query.specs.Query.{refusal_of}
 use Rattle.query.specs.SunArcs.{with_sun_arcs}
 use Rattle.query.proofs.Accepted.{accepted-by}
+use mathlib.Core.Bool.{true}
+use Rattle.std.specs.Prelude.{Result, Ok}
+use Rattle.std.specs.Result.{is_ok}
 use Rattle.search.specs.declared.Found.{Found}
+use Rattle.search.specs.declared.SearchError.{SearchError}
 use Rattle.search.specs.Days.{matching_days}
 use Rattle.search.specs.Search.{Searched}
 use Rattle.search.specs.Spans.{between}
@@ -23,7 +27,7 @@ use Rattle.catalogue.proofs.Together.{lines-append}
 use Rattle.find.specs.Output.{heading_of, output_of, front_days, NextDays}
 use Rattle.find.proofs.Bounds.{matching-short}
 use Rattle.find.proofs.Next.{next_of, left-of}
-use Rattle.find.proofs.Listed.{Filled, by-search, there, listed, each}
+use Rattle.find.proofs.Listed.{Filled, search-there, by-search, there, listed, each}
 
 -- the lines of the days from day `first` to the last are due
 pub record Parting (form : Print) (q : Query) (first written : ℕ) : Type 0 where
@@ -56,14 +60,13 @@ module _ (form : Print) (q : Query) (e : refusal_of q ≡ 0) where
     good-part = part-accepted q first last e low high
 
     -- an entry for each day is enough
-    pub part_filled :
-        (list : List ℕ) (found : Found) (after : List ℕ) →
-        Searched (with_sun_arcs (between q first last)) list found after →
-        last < first + 131072 →
-        524288 ≤ length list →
-        Filled (between q first last) list found.length after
-    part_filled list found after s near room =
-        by-search (between q first last) good-part list found after s (omega (arith, matching-short (between q first last)))
+    module _ (list : List ℕ) (answer : Result Found SearchError) (after : List ℕ) (s : Searched (with_sun_arcs (between q first last)) list answer after) (near : last < first + 131072) (room : 524288 ≤ length list) where
+      pub part-there : is_ok answer ≡ true
+      part-there = search-there (between q first last) good-part list answer after s (omega (arith, matching-short (between q first last)))
+
+      pub part_filled : (found : Found) → answer ≡ Ok found → Filled (between q first last) list found.length after
+      part_filled found is =
+          by-search (between q first last) good-part list answer found after s is (omega (arith, matching-short (between q first last)))
 
     abbrev days : List ℕ
     days = matching_days (between q first last)

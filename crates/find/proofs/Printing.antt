@@ -9,13 +9,16 @@ use lib.ListN.{length, take, drop, length-append, length-drop}
 use Rattle.names.specs.declared.Print.{Print}
 use Rattle.query.specs.declared.Query.{Query}
 use Rattle.query.specs.Query.{refusal_of}
+use Rattle.std.specs.Prelude.{Result, Ok}
+use Rattle.std.specs.Result.{is_ok}
+use Rattle.entries.specs.declared.NotPut.{NotPut}
 use Rattle.catalogue.specs.declared.Piece.{Piece}
 use Rattle.panchanga.specs.TrueLongitudes.{is_edition}
 use Rattle.entries.specs.Listed.{listed_from}
 use Rattle.catalogue.specs.Pieces.{day_lines, lines_piece, lines_after, of_edition, left_in_edition}
 use Rattle.catalogue.proofs.Pieces.{piece-given, buffer-given}
 use Rattle.catalogue.specs.Each.{EachFits}
-use Rattle.catalogue.proofs.Together.{Going, going}
+use Rattle.catalogue.proofs.Together.{piece-each, Going, going}
 use Rattle.find.specs.Output.{output_of, NextBytes}
 use Rattle.find.proofs.Bounds.{output-short}
 use Rattle.find.proofs.Next.{next_of, due-of, left-of}
@@ -36,9 +39,20 @@ module _ (form : Print) (q : Query) (days : List ℕ) (before : ℕ) where
   pub printing-start : (buffer : List ℕ) → EachFits form q.edition (length buffer) (listed_from days 0) → NextBytes form q before (due 0) → Printing (length buffer) buffer before 0
   printing-start buffer each n = record { same = refl; each = each; left = due-of form q before (due 0) n; sum = refl }
 
+  -- a call for the lines due is not refused
+  pub lines-there :
+      (room : ℕ) (buffer : List ℕ) (written next : ℕ) →
+      Printing room buffer written next →
+      is_edition q.edition ≡ true →
+      (answer : Result Piece NotPut) →
+      answer ≡ of_edition q.edition (lines_piece form q.edition days next (length buffer)) →
+      is_ok answer ≡ true
+  lines-there room buffer written next p t answer told =
+      rw (told ∙ piece-given q.edition t _ ∙ piece-each form q.edition (length buffer) next (listed_from days next) (rw p.same p.each))
+
   module _ (room : ℕ) (buffer : List ℕ) (written next : ℕ) (p : Printing room buffer written next) (piece : Piece) (after : List ℕ)
-      (t : is_edition q.edition ≡ true) (told : piece ≡ of_edition q.edition (lines_piece form q.edition days next (length buffer))) (put : after ≡ left_in_edition q.edition buffer (lines_after form q.edition days next buffer)) where
-    pub step : Going form q.edition days next buffer piece after
+      (t : is_edition q.edition ≡ true) (told : Ok piece ≡ of_edition q.edition (lines_piece form q.edition days next (length buffer))) (put : after ≡ left_in_edition q.edition buffer (lines_after form q.edition days next buffer)) where
+    pub step : Going form q.edition days next buffer (Ok piece) after
     step = rw (told ∙ piece-given q.edition t _, put ∙ buffer-given q.edition t _ _) (going form q.edition days next buffer (rw p.same p.each))
 
     left-now : drop written (output_of form q) ≡ take piece.bytes after ++ (due piece.next ++ drop end (output_of form q))

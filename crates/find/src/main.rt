@@ -1,7 +1,7 @@
 // Reads a page from standard input and prints the days that it can be.
 #![tactic(auto)]
 
-ghost use Rattle.std.specs.Prelude.{◌≡◌, true, ◌+◌, ◌<◌, ◌≤◌, length};
+ghost use Rattle.std.specs.Prelude.{◌≡◌, ◌+◌, ◌<◌, ◌≤◌, length, IfOk};
 ghost use Rattle.query.specs.Query.{refusal_of};
 ghost use Rattle.query.specs.SunArcs.{with_sun_arcs};
 ghost use Rattle.text.specs.Inputs.{too_long};
@@ -14,10 +14,10 @@ ghost use Rattle.search.specs.Days.{matching_days, visited_days};
 ghost use Rattle.search.specs.Spans.{between};
 ghost use Rattle.find.specs.Output.{heading_of, output_of, said_of, NextBytes, front_days, NextDays};
 
-use days::refusal;
+use days::refusal::Refusal;
 use names::Print;
-use output::STDOUT_FILENO;
-use page::PageRead;
+use output::NotWritten;
+use page::Fault;
 use query::Query;
 use search::Found;
 use std::io::Stdin;
@@ -30,19 +30,12 @@ const PART: u32 = 131072;
 
 const BUFFER: usize = 16384;
 
-// How far the output is written: how many bytes of it, and whether no write failed.
-#[derive(Clone, Copy)]
-struct Written {
-    bytes: usize,
-    whole: bool,
-}
-
 // The only way to write to standard output what was found. By what it requires these are the output's bytes behind
 // those written before.
-fn write_next(print: Print, query: Query, before: usize, bytes: &[u8]) -> bool
+fn write_next(print: Print, query: Query, before: usize, bytes: &[u8]) -> Result<(), NotWritten>
     requires { NextBytes print query before bytes.now }
 {
-    io::write_all(STDOUT_FILENO, bytes)
+    output::print_bytes(bytes)
 }
 
 // The only way to say beside it what was found. By what it requires the line has all that is said.
@@ -59,39 +52,43 @@ fn say_counts(print: Print, query: Query, found: Found)
     say_found(print, query, said);
 }
 
-fn print_heading(print: Print, query: Query, found: Found, buffer: &mut [u8]) -> Written
+// The heading. Here and below the result is how many bytes of the output are written then.
+fn print_heading(
+    print: Print,
+    query: Query,
+    found: Found,
+    buffer: &mut [u8],
+) -> Result<usize, NotWritten>
     requires query_value { (refusal_of query ≡ 0) × (line_capacity ≤ length buffer.old) }
     requires length_value { (found.length ≡ length (matching_days query)) × (found.examined ≡ length (visited_days (with_sun_arcs query))) }
-    ensures { result.bytes ≡ length (heading_of print query) }
+    ensures { IfOk result (λ bytes. bytes ≡ length (heading_of print query)) }
 {
     let piece = catalogue::heading_in(print, query.edition, found.length, found.examined, buffer);
-    let bytes = piece.bytes;
-    let whole = write_next(print, query, 0, &buffer[..bytes]);
-    Written { bytes, whole }
+    let bytes = piece.unwrap().bytes;
+    write_next(print, query, 0, &buffer[..bytes])?;
+    Ok(bytes)
 }
 
 // The lines of a list's days, piece by piece.
-fn print_days(print: Print, query: Query, before: usize, days: &[u8], buffer: &mut [u8]) -> Written
+fn print_days(
+    print: Print,
+    query: Query,
+    before: usize,
+    days: &[u8],
+    buffer: &mut [u8],
+) -> Result<usize, NotWritten>
     requires { (refusal_of query ≡ 0) × EachFits print query.edition (length buffer.old) (listed_from days.now 0) × NextBytes print query before (day_lines print query.edition (listed_from days.now 0)) }
-    ensures { result.whole ≡ true → result.bytes ≡ before + length (day_lines print query.edition (listed_from days.now 0)) }
+    ensures { IfOk result (λ bytes. bytes ≡ before + length (day_lines print query.edition (listed_from days.now 0))) }
 {
     let mut written = before;
     let mut next: usize = 0;
     loop {
-        let piece = catalogue::lines_in(print, query.edition, days, next, buffer);
+        let piece = catalogue::lines_in(print, query.edition, days, next, buffer).unwrap();
         let bytes = piece.bytes;
         if bytes == 0 {
-            return Written {
-                bytes: written,
-                whole: true,
-            };
+            return Ok(written);
         }
-        if !write_next(print, query, written, &buffer[..bytes]) {
-            return Written {
-                bytes: written,
-                whole: false,
-            };
-        }
+        write_next(print, query, written, &buffer[..bytes])?;
         written += bytes;
         next = piece.next;
     }
@@ -105,9 +102,9 @@ fn print_listed(
     found: Found,
     list: &[u8],
     buffer: &mut [u8],
-) -> Written
+) -> Result<usize, NotWritten>
     requires { (refusal_of query ≡ 0) × NextDays print query before list.now found.length (length buffer.old) }
-    ensures { result.whole ≡ true → result.bytes ≡ before + length (day_lines print query.edition (front_days list.now found.length)) }
+    ensures { IfOk result (λ bytes. bytes ≡ before + length (day_lines print query.edition (front_days list.now found.length))) }
 {
     let end = entries::ENTRY_BYTES * found.length as usize;
     print_days(print, query, before, &list[..end], buffer)
@@ -140,64 +137,59 @@ fn print_parts(
     before: usize,
     list: &mut [u8],
     buffer: &mut [u8],
-) -> Written
+) -> Result<usize, NotWritten>
     requires query_value { (refusal_of query ≡ 0) × (before ≡ length (heading_of print query)) }
     requires in_bounds { (524288 ≤ length list.old) × (line_capacity ≤ length buffer.old) }
-    ensures { result.whole ≡ true → result.bytes ≡ length (output_of print query) }
+    ensures { IfOk result (λ bytes. bytes ≡ length (output_of print query)) }
 {
     let mut written = before;
     let mut first = query.first;
+    // Kept: a part's end is reckoned from its first day, so a `for` by `step_by(PART)` would say its length twice.
     while first <= query.last {
         let last = part_end(first, query.last);
         let part = part_of(query, first, last);
-        let found = search::search(part.with_sun_arcs(), list);
-        let printed = print_listed(print, query, written, found, list, buffer);
-        if !printed.whole {
-            return printed;
-        }
-        written = printed.bytes;
+        let found = search::search(part.with_sun_arcs(), list).unwrap();
+        written = print_listed(print, query, written, found, list, buffer)?;
         first = last + 1;
     }
-    Written {
-        bytes: written,
-        whole: true,
-    }
+    Ok(written)
 }
 
 // Where no write fails, all of the output is written. The heading has the number of matching days, so the whole span is
 // searched before it, and where the list has an entry for each of them they are listed already: each day is examined
 // once.
-fn print_found(print: Print, query: Query, list: &mut [u8], buffer: &mut [u8]) -> Written
+fn print_found(
+    print: Print,
+    query: Query,
+    list: &mut [u8],
+    buffer: &mut [u8],
+) -> Result<usize, NotWritten>
     requires { (refusal_of query ≡ 0) × (524288 ≤ length list.old) × (line_capacity ≤ length buffer.old) }
-    ensures { result.whole ≡ true → result.bytes ≡ length (output_of print query) }
+    ensures { IfOk result (λ bytes. bytes ≡ length (output_of print query)) }
 {
-    let found = search::list_first(query.with_sun_arcs(), list);
+    let found = search::list_first(query.with_sun_arcs(), list).unwrap();
     say_counts(print, query, found);
-    let heading = print_heading(print, query, found, buffer);
-    if !heading.whole {
-        return heading;
-    }
+    let heading = print_heading(print, query, found, buffer)?;
     if PART < found.length {
-        return print_parts(print, query, heading.bytes, list, buffer);
+        return print_parts(print, query, heading, list, buffer);
     }
-    print_listed(print, query, heading.bytes, found, list, buffer)
+    print_listed(print, query, heading, found, list, buffer)
 }
 
 fn find_days(print: Print, query: Query, list: &mut [u8])
     requires { (refusal_of query ≡ 0) × (524288 ≤ length list.old) }
 {
     let mut buffer = [0u8; BUFFER];
-    let written = print_found(print, query, list, &mut buffer);
-    if !written.whole {
-        output::say(output::not_written());
-    }
+    let _ = print_found(print, query, list, &mut buffer);
 }
 
-fn refuse(read: PageRead)
-    requires { read.line < 4294967296 }
+fn refuse(fault: Fault)
+    requires { fault.line < 4294967296 }
 {
-    output::print(text::refusal_line(read.refusal));
-    output::say(messages::page_fault(read.line as u32, read.refusal, read.reason));
+    let refusal = fault.refusal.number();
+    let _ = output::print(text::refusal_line(refusal));
+    let reason = fault.reason_number();
+    output::say(messages::page_fault(fault.line as u32, refusal, reason));
 }
 
 // The only way to say how a page was understood. By what it requires the bytes are all that is said of it.
@@ -218,18 +210,17 @@ fn read_and_find(stdin: &mut Stdin, input: &mut [u8])
 {
     let n = input::read_input(stdin, input);
     if n == input.len() {
-        output::print(text::refusal_line(refusal::BAD_INPUT));
+        let _ = output::print(text::refusal_line(Refusal::BadInput.number()));
         output::say(messages::unreadable_page());
         return;
     }
-    let read = page::read(&input[..n]);
-    if read.refusal != refusal::NONE {
-        refuse(read);
-        return;
+    match page::read(&input[..n]) {
+        Ok(read) => {
+            say_remarks(&input[..n]);
+            find_days(read.print, read.query, input);
+        }
+        Err(fault) => refuse(fault),
     }
-    say_remarks(&input[..n]);
-    let print = read.print;
-    find_days(print, read.query, input);
 }
 
 fn main(rt: HostRuntime) {

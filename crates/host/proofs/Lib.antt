@@ -1,3 +1,3 @@
 pub mod OnNumbers
-pub mod Parts
 pub mod Laws
+mod Told

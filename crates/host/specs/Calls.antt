@@ -1,6 +1,10 @@
 -- What the calls take and hand back as plain numbers: each number of an answer has a call of its own.
 -- Assumes nothing.
-use Rattle.std.specs.Prelude.{Bool, cond, not, ℕ, leb, eqb}
+use Rattle.std.specs.Prelude.{Bool, cond, not, ℕ, leb, eqb, Result}
+use Rattle.std.specs.Result.{result_unwrap_or}
+use Rattle.arms.specs.declared.Arm.{Arm}
+use Rattle.arms.specs.Orders.{no_degrees}
+use Rattle.days.specs.declared.refusal.Refusal.{Refusal}
 use Rattle.days.specs.declared.Day.{Day}
 use Rattle.days.specs.Days.{last_day, pair_at}
 use Rattle.civil.specs.declared.Date.{Date}
@@ -30,3 +34,7 @@ on_number f n = cond (leb n last_day) (f (pair_at n)) 0
 -- the first edition's row of so many month starts (paper 02's turns) and days covered
 abbrev pub row_from : ℕ → ℕ → Months
 row_from turns covered = record { edition = first_edition; starts = turns; covered = covered }
+
+-- the arm that is told, and zeros of a refusal
+abbrev pub arm_told : Result Arm Refusal → Arm
+arm_told answer = result_unwrap_or answer (record { angle = no_degrees; rate = no_degrees })

@@ -1,168 +1,139 @@
 // Days, pairs, civil dates and Saka lunar dates.
 ghost use Rattle.std.specs.Prelude.{false, ◌≡◌};
+ghost use Rattle.std.specs.Result.{result_unwrap_or};
+ghost use Rattle.days.specs.Refusals.{result_number, part_or_zero};
 ghost use Rattle.days.specs.Days.{day_of, number_of, next_of};
-ghost use Rattle.days.specs.Parts.{IsNumber};
 ghost use Rattle.civil.specs.Answers.{day_of_date, date_of_day};
 ghost use Rattle.saka.specs.LunarDays.{lunar_day};
 ghost use Rattle.host.specs.Calls.{date_from, pair_from, lunar_date_from, mark_from};
-ghost use Rattle.host.specs.Parts.{IsDay, IsDate};
 
-use civil::{Date, DateAnswer};
-use days::{Day, DayAnswer, NumberAnswer};
+use civil::Date;
+use days::Day;
+use days::refusal::{Refusal, result_number};
 use saka::LunarDate;
 
-// The libraries' answers, said number by number, for the calls below.
-fn day_of_date(year: u32, month: u32, day: u32) -> NumberAnswer
-    ensures { IsNumber result (day_of_date (date_from year month day)) }
-{
-    civil::day_of(Date { year, month, day })
-}
-
-fn date_of_day(day: u32) -> DateAnswer
-    ensures { IsDate result (date_of_day day) }
-{
-    civil::date_of(day)
-}
-
-fn pair_of_day(day: u32) -> DayAnswer
-    ensures { IsDay result (day_of day) }
-{
-    Day::from_number(day)
-}
-
-fn day_of_pair(cycle: u32, within: u32) -> NumberAnswer
-    ensures { IsNumber result (number_of (pair_from cycle within)) }
-{
-    Day { cycle, within }.number()
-}
-
-fn next_pair(cycle: u32, within: u32) -> DayAnswer
-    ensures { IsDay result (next_of (pair_from cycle within)) }
-{
-    Day { cycle, within }.next()
-}
-
+// Kept: year, months and tithis travel one by one in C's interface, and here become a `LunarDate`.
 fn day_of_lunar_date(
     year: u32,
     months: u32,
     tithis: u32,
     weekday: u32,
-    pending: bool,
-) -> NumberAnswer
-    ensures { IsNumber result (lunar_day (lunar_date_from year months tithis weekday pending)) }
+    leap_month_pending: bool,
+) -> Result<u32, Refusal>
+    ensures { result ≡ lunar_day (lunar_date_from year months tithis weekday leap_month_pending) }
 {
     saka::day_of(LunarDate {
         year,
         months,
         tithis,
         weekday,
-        leap_month_pending: pending,
+        leap_month_pending,
     })
 }
 
 #[unsafe(no_mangle)]
 pub extern "C" fn graha_date_result(year: u32, month: u32, day: u32) -> u32
-    ensures { result ≡ (day_of_date (date_from year month day)).refusal }
+    ensures { result ≡ result_number (day_of_date (date_from year month day)) }
 {
-    day_of_date(year, month, day).refusal
+    result_number(civil::day_of(Date { year, month, day }))
 }
 
 #[unsafe(no_mangle)]
 pub extern "C" fn graha_date_day(year: u32, month: u32, day: u32) -> u32
-    ensures { result ≡ (day_of_date (date_from year month day)).number }
+    ensures { result ≡ result_unwrap_or (day_of_date (date_from year month day)) 0 }
 {
-    day_of_date(year, month, day).number
+    civil::day_of(Date { year, month, day }).unwrap_or(0)
 }
 
 #[unsafe(no_mangle)]
 pub extern "C" fn graha_day_result(day: u32) -> u32
-    ensures { result ≡ (day_of day).refusal }
+    ensures { result ≡ result_number (day_of day) }
 {
-    pair_of_day(day).refusal
+    result_number(Day::from_number(day))
 }
 
 #[unsafe(no_mangle)]
 pub extern "C" fn graha_day_year(day: u32) -> u32
-    ensures { result ≡ (date_of_day day).date.year }
+    ensures { result ≡ part_or_zero (λ x. x.year) (date_of_day day) }
 {
-    date_of_day(day).date.year
+    civil::date_of(day).map_or(0, |date| date.year)
 }
 
 #[unsafe(no_mangle)]
 pub extern "C" fn graha_day_month(day: u32) -> u32
-    ensures { result ≡ (date_of_day day).date.month }
+    ensures { result ≡ part_or_zero (λ x. x.month) (date_of_day day) }
 {
-    date_of_day(day).date.month
+    civil::date_of(day).map_or(0, |date| date.month)
 }
 
 #[unsafe(no_mangle)]
 pub extern "C" fn graha_day_of_month(day: u32) -> u32
-    ensures { result ≡ (date_of_day day).date.day }
+    ensures { result ≡ part_or_zero (λ x. x.day) (date_of_day day) }
 {
-    date_of_day(day).date.day
+    civil::date_of(day).map_or(0, |date| date.day)
 }
 
 #[unsafe(no_mangle)]
 pub extern "C" fn graha_day_cycle(day: u32) -> u32
-    ensures { result ≡ (day_of day).day.cycle }
+    ensures { result ≡ part_or_zero (λ d. d.cycle) (day_of day) }
 {
-    pair_of_day(day).day.cycle
+    Day::from_number(day).map_or(0, |day| day.cycle)
 }
 
 #[unsafe(no_mangle)]
 pub extern "C" fn graha_day_within(day: u32) -> u32
-    ensures { result ≡ (day_of day).day.within }
+    ensures { result ≡ part_or_zero (λ d. d.within) (day_of day) }
 {
-    pair_of_day(day).day.within
+    Day::from_number(day).map_or(0, |day| day.within)
 }
 
 #[unsafe(no_mangle)]
 pub extern "C" fn graha_pair_result(cycle: u32, within: u32) -> u32
-    ensures { result ≡ (number_of (pair_from cycle within)).refusal }
+    ensures { result ≡ result_number (number_of (pair_from cycle within)) }
 {
-    day_of_pair(cycle, within).refusal
+    result_number(Day { cycle, within }.number())
 }
 
 #[unsafe(no_mangle)]
 pub extern "C" fn graha_pair_day(cycle: u32, within: u32) -> u32
-    ensures { result ≡ (number_of (pair_from cycle within)).number }
+    ensures { result ≡ result_unwrap_or (number_of (pair_from cycle within)) 0 }
 {
-    day_of_pair(cycle, within).number
+    Day { cycle, within }.number().unwrap_or(0)
 }
 
 #[unsafe(no_mangle)]
 pub extern "C" fn graha_next_result(cycle: u32, within: u32) -> u32
-    ensures { result ≡ (next_of (pair_from cycle within)).refusal }
+    ensures { result ≡ result_number (next_of (pair_from cycle within)) }
 {
-    next_pair(cycle, within).refusal
+    result_number(Day { cycle, within }.next())
 }
 
 #[unsafe(no_mangle)]
 pub extern "C" fn graha_next_cycle(cycle: u32, within: u32) -> u32
-    ensures { result ≡ (next_of (pair_from cycle within)).day.cycle }
+    ensures { result ≡ part_or_zero (λ d. d.cycle) (next_of (pair_from cycle within)) }
 {
-    next_pair(cycle, within).day.cycle
+    Day { cycle, within }.next().map_or(0, |day| day.cycle)
 }
 
 #[unsafe(no_mangle)]
 pub extern "C" fn graha_next_within(cycle: u32, within: u32) -> u32
-    ensures { result ≡ (next_of (pair_from cycle within)).day.within }
+    ensures { result ≡ part_or_zero (λ d. d.within) (next_of (pair_from cycle within)) }
 {
-    next_pair(cycle, within).day.within
+    Day { cycle, within }.next().map_or(0, |day| day.within)
 }
 
 #[unsafe(no_mangle)]
 pub extern "C" fn graha_saka_result(year: u32, months: u32, tithis: u32, weekday: u32) -> u32
-    ensures { result ≡ (lunar_day (lunar_date_from year months tithis weekday false)).refusal }
+    ensures { result ≡ result_number (lunar_day (lunar_date_from year months tithis weekday false)) }
 {
-    day_of_lunar_date(year, months, tithis, weekday, false).refusal
+    result_number(day_of_lunar_date(year, months, tithis, weekday, false))
 }
 
 #[unsafe(no_mangle)]
 pub extern "C" fn graha_saka_day(year: u32, months: u32, tithis: u32, weekday: u32) -> u32
-    ensures { result ≡ (lunar_day (lunar_date_from year months tithis weekday false)).number }
+    ensures { result ≡ result_unwrap_or (lunar_day (lunar_date_from year months tithis weekday false)) 0 }
 {
-    day_of_lunar_date(year, months, tithis, weekday, false).number
+    day_of_lunar_date(year, months, tithis, weekday, false).unwrap_or(0)
 }
 
 // Any `pending` but 0 says that this year's extra month is still to come.
@@ -174,9 +145,9 @@ pub extern "C" fn graha_saka_pending_result(
     weekday: u32,
     pending: u32,
 ) -> u32
-    ensures { result ≡ (lunar_day (lunar_date_from year months tithis weekday (mark_from pending))).refusal }
+    ensures { result ≡ result_number (lunar_day (lunar_date_from year months tithis weekday (mark_from pending))) }
 {
-    day_of_lunar_date(year, months, tithis, weekday, pending != 0).refusal
+    result_number(day_of_lunar_date(year, months, tithis, weekday, pending != 0))
 }
 
 #[unsafe(no_mangle)]
@@ -187,7 +158,7 @@ pub extern "C" fn graha_saka_pending_day(
     weekday: u32,
     pending: u32,
 ) -> u32
-    ensures { result ≡ (lunar_day (lunar_date_from year months tithis weekday (mark_from pending))).number }
+    ensures { result ≡ result_unwrap_or (lunar_day (lunar_date_from year months tithis weekday (mark_from pending))) 0 }
 {
-    day_of_lunar_date(year, months, tithis, weekday, pending != 0).number
+    day_of_lunar_date(year, months, tithis, weekday, pending != 0).unwrap_or(0)
 }

@@ -1,14 +1,13 @@
 // The host's calls for leafing by lunar month: a row of month starts in edition 1, by its numbers of turns and of days
 // covered, and its list of four bytes a turn.
-ghost use Rattle.std.specs.Prelude.{◌≡◌, ◌/◌, ◌%◌};
+ghost use Rattle.std.specs.Prelude.{◌≡◌, ◌/◌, ◌%◌, ◌≤◌};
 ghost use Rattle.entries.specs.Entries.{capacity};
 ghost use Rattle.panchanga.specs.TrueLongitudes.{first_edition};
-ghost use Rattle.lunar_months.specs.MonthStarts.{month_numbers};
+ghost use Rattle.lunar_months.specs.Numbers.{row_numbers, month_numbers};
 ghost use Rattle.lunar_months.specs.Rows.{extended_by, list_after, month_at};
 ghost use Rattle.host.specs.Calls.{row_from};
-ghost use Rattle.host.specs.Parts.{IsMonth};
 
-use lunar_months::{MonthNumbers, Months};
+use lunar_months::{MonthNumbers, Months, month_numbers, row_numbers};
 use panchanga::FIRST_EDITION;
 
 fn row(turns: u32, covered: u32) -> Months
@@ -23,21 +22,19 @@ fn row(turns: u32, covered: u32) -> Months
 }
 
 fn month_at(turns: u32, covered: u32, day: u32, list: &[u8]) -> MonthNumbers
-    ensures { IsMonth turns result (month_numbers (month_at (row_from turns covered) list.now first_edition day)) }
+    ensures { (result ≡ month_numbers (month_at (row_from turns covered) list.now first_edition day)) × (result.number ≤ turns) }
 {
-    row(turns, covered)
-        .month_at(list, FIRST_EDITION, day)
-        .numbers()
+    month_numbers(row(turns, covered).month_at(list, FIRST_EDITION, day))
 }
 
 // The refusal, or 0 with the month starts of so many days more written behind those in the list: four bytes a day, low
 // byte first.
 #[unsafe(no_mangle)]
 pub extern "C" fn graha_months_extend(turns: u32, covered: u32, days: u32, list: &mut [u8]) -> u32
-    ensures value { result ≡ (extended_by (row_from turns covered) days (capacity list.old)).refusal }
+    ensures value { result ≡ (row_numbers (extended_by (row_from turns covered) days (capacity list.old))).refusal }
     ensures list_after { list.new ≡ list_after (row_from turns covered) days list.old }
 {
-    row(turns, covered).extend(days, list).refusal
+    row_numbers(row(turns, covered).extend(days, list)).refusal
 }
 
 // The number of turns after it, or with 7 the number that would do; a number of 32 bits, as a row has (only a list of
@@ -49,10 +46,10 @@ pub extern "C" fn graha_months_extended_turns(
     days: u32,
     list_len: usize,
 ) -> u32
-    ensures { result ≡ (extended_by (row_from turns covered) days (list_len / 4)).months.starts % 4294967296 }
+    ensures { result ≡ (row_numbers (extended_by (row_from turns covered) days (list_len / 4))).starts % 4294967296 }
 {
-    let extended = row(turns, covered).extended(days, list_len);
-    (extended.months.starts % 4294967296) as u32
+    let extended = row_numbers(row(turns, covered).extended(days, list_len));
+    (extended.starts % 4294967296) as u32
 }
 
 #[unsafe(no_mangle)]

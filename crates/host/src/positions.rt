@@ -20,13 +20,16 @@ use planets::Planet;
 pub extern "C" fn graha_day_weekday(day: u32) -> u32
     ensures { result ≡ on_number weekday_at day }
 {
-    Day::at(day).weekday().number
+    Day::at(day).weekday().unwrap_or(0)
 }
 
 fn mean_longitude(body: Body, day: u32) -> u32
     ensures { result ≡ on_number (longitude_at (body_number body)) day }
 {
-    longitudes::mean_longitude(body, Day::at(day)).seconds
+    match longitudes::mean_longitude(body, Day::at(day)) {
+        Ok(found) => found.seconds,
+        Err(_) => 0,
+    }
 }
 
 #[unsafe(no_mangle)]
@@ -96,7 +99,7 @@ pub extern "C" fn graha_mean_saturn(day: u32) -> u32
 fn mean_thirds(body: Body, day: u32) -> u32
     ensures { result ≡ on_number (thirds_at (body_number body)) day }
 {
-    longitudes::mean_thirds(body, Day::at(day)).number
+    longitudes::mean_thirds(body, Day::at(day)).unwrap_or(0)
 }
 
 #[unsafe(no_mangle)]
@@ -166,48 +169,48 @@ pub extern "C" fn graha_mean_saturn_thirds(day: u32) -> u32
 pub extern "C" fn graha_true_sun(day: u32) -> u32
     ensures { result ≡ on_number true_sun_at day }
 {
-    panchanga::true_sun(Day::at(day)).number
+    panchanga::true_sun(Day::at(day)).unwrap_or(0)
 }
 
 #[unsafe(no_mangle)]
 pub extern "C" fn graha_true_moon(day: u32) -> u32
     ensures { result ≡ on_number (true_moon_at first_edition) day }
 {
-    panchanga::true_moon(FIRST_EDITION, Day::at(day)).number
+    panchanga::true_moon(FIRST_EDITION, Day::at(day)).unwrap_or(0)
 }
 
 #[unsafe(no_mangle)]
 pub extern "C" fn graha_tithi(day: u32) -> u32
     ensures { result ≡ on_number (tithi_at first_edition) day }
 {
-    panchanga::tithi(FIRST_EDITION, Day::at(day)).number
+    panchanga::tithi(FIRST_EDITION, Day::at(day)).unwrap_or(0)
 }
 
 #[unsafe(no_mangle)]
 pub extern "C" fn graha_nakshatra(day: u32) -> u32
     ensures { result ≡ on_number (nakshatra_at first_edition) day }
 {
-    panchanga::nakshatra(FIRST_EDITION, Day::at(day)).number
+    panchanga::nakshatra(FIRST_EDITION, Day::at(day)).unwrap_or(0)
 }
 
 #[unsafe(no_mangle)]
 pub extern "C" fn graha_yoga(day: u32) -> u32
     ensures { result ≡ on_number (yoga_at first_edition) day }
 {
-    panchanga::yoga(FIRST_EDITION, Day::at(day)).number
+    panchanga::yoga(FIRST_EDITION, Day::at(day)).unwrap_or(0)
 }
 
 #[unsafe(no_mangle)]
 pub extern "C" fn graha_karana(day: u32) -> u32
     ensures { result ≡ on_number (karana_at first_edition) day }
 {
-    panchanga::karana(FIRST_EDITION, Day::at(day)).number
+    panchanga::karana(FIRST_EDITION, Day::at(day)).unwrap_or(0)
 }
 
 fn true_planet(planet: Planet, day: u32) -> u32
     ensures { result ≡ on_number (true_planet_at (planet_number planet)) day }
 {
-    planets::true_longitude(planet, Day::at(day)).number
+    planets::true_longitude(planet, Day::at(day)).unwrap_or(0)
 }
 
 #[unsafe(no_mangle)]

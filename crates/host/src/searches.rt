@@ -6,9 +6,10 @@ ghost use Rattle.search.specs.Days.{matching_days, visited_days, visit_limit};
 ghost use Rattle.search.specs.Search.{result_of, unless_refused, list_after, Measured};
 ghost use Rattle.host.specs.HostQuery.{host_query};
 
+use days::refusal::Refusal;
 use panchanga::FIRST_EDITION;
 use query::{Arc, Asked, BodyArcs, Query, Weekdays};
-use search::Found;
+use search::{Found, search_number};
 
 fn query_of(first: u32, last: u32, start: u32, width: u32, weekday: u32) -> Query
     ensures { result ≡ host_query first last start width weekday }
@@ -36,9 +37,9 @@ fn query_of(first: u32, last: u32, start: u32, width: u32, weekday: u32) -> Quer
     }
 }
 
-// The refusal, or 0 with the matching days written to the list: four bytes a day, low byte first. (The query is written
-// out here once more: from `query_of` it would stand on the stack twice, and the deepest call take 2,226 bytes of the
-// 2,048 allowed.)
+// The refusal, or 0 with the matching days written to the list: four bytes a day, low byte first.
+// Kept: the query is written out here once more. From `query_of` it would stand on the stack twice, and the deepest
+// call take 2,226 bytes of the 2,048 allowed.
 #[unsafe(no_mangle)]
 pub extern "C" fn graha_search(
     first: u32,
@@ -60,7 +61,7 @@ pub extern "C" fn graha_search(
     let weekdays = Weekdays::only(weekday);
     let mut arcs = [BodyArcs::NONE; 9];
     arcs[0] = sun;
-    search::search(
+    search_number(search::search(
         Query {
             first,
             last,
@@ -74,12 +75,11 @@ pub extern "C" fn graha_search(
             true_arcs: [BodyArcs::NONE; query::TRUE_BODIES],
         },
         list,
-    )
-    .refusal
+    ))
 }
 
 // The two numbers of a search, whatever list it is lent.
-fn measured(first: u32, last: u32, start: u32, width: u32, weekday: u32) -> Found
+fn measured(first: u32, last: u32, start: u32, width: u32, weekday: u32) -> Result<Found, Refusal>
     ensures { Measured (host_query first last start width weekday) result }
 {
     search::measure(query_of(first, last, start, width, weekday))
@@ -96,7 +96,7 @@ pub extern "C" fn graha_search_length(
 ) -> u32
     ensures { result ≡ unless_refused (host_query first last start width weekday) (length (matching_days (host_query first last start width weekday))) }
 {
-    measured(first, last, start, width, weekday).length
+    measured(first, last, start, width, weekday).map_or(0, |found| found.length)
 }
 
 // How many days the search examines: paper 01's days looked at.
@@ -111,5 +111,5 @@ pub extern "C" fn graha_search_looked(
     ensures value { result ≡ unless_refused (host_query first last start width weekday) (length (visited_days (host_query first last start width weekday))) }
     ensures upper_bound { result ≤ visit_limit (host_query first last start width weekday) }
 {
-    measured(first, last, start, width, weekday).examined
+    measured(first, last, start, width, weekday).map_or(0, |found| found.examined)
 }

@@ -8,13 +8,13 @@ use Prim.Native.Nat.{ℕ, suc, ◌+◌, ◌*◌, ◌-◌, ◌≤◌, ◌<◌}
 use native.Mathlib.Omega.{arith}
 use lib.Dec.{leb}
 use borrow.Author.Tests.{leb-true, leb-false, le-leb, lt-leb, ltb-true}
-use Rattle.days.specs.declared.NumberAnswer.{NumberAnswer}
-use Rattle.days.specs.Refusals.{no_such_date, out_of_range}
-use Rattle.days.specs.Days.{last_day, pair_at, the_number, no_number, julian_day_of}
+use Rattle.std.specs.Prelude.{Result, Ok, Err}
+use Rattle.days.specs.declared.refusal.Refusal.{Refusal}
+use Rattle.days.specs.declared.refusal.Refusal.TheVariants.{NoSuchDate, OutOfRange}
+use Rattle.days.specs.Days.{last_day, pair_at, julian_day_of}
 use Rattle.civil.specs.declared.Date.{Date}
 use Rattle.civil.specs.Calendar.{month_days, date_exists, date_on}
-use Rattle.civil.specs.declared.DateAnswer.{DateAnswer}
-use Rattle.civil.specs.Answers.{day_of_date, the_date, no_date}
+use Rattle.civil.specs.Answers.{day_of_date}
 use Rattle.civil.specs.Serial.{serial_of, serial_start, epoch_serial, gregorian_serial, last_julian_stamp}
 use Rattle.civil.proofs.Years.{later-year}
 use Rattle.civil.proofs.Dates.{real_of, stamp_of, placed, months, year-long, year_of}
@@ -44,43 +44,43 @@ iso-counts n = omega (arith, serial-later (iso_on n) (omega (arith, year-low n))
 pub same-julian-day : (n : ℕ) → gregorian_count (iso_on n) ≡ serial_of (date_on n)
 same-julian-day n = iso-counts n ∙ sym (date-counts n).counted
 
-pub iso-julian-day : (n : ℕ) → n ≤ last_day → julian_day_of (pair_at n) ≡ the_number (serial_start + gregorian_count (iso_on n))
-iso-julian-day n h = julian-day n h ∙ ap (λ (s : ℕ). the_number (serial_start + s)) (sym (same-julian-day n))
+pub iso-julian-day : (n : ℕ) → n ≤ last_day → julian_day_of (pair_at n) ≡ Ok (serial_start + gregorian_count (iso_on n))
+iso-julian-day n h = julian-day n h ∙ ap (λ (s : ℕ). Ok (serial_start + s)) (sym (same-julian-day n))
 
 -- the three answers
-pub no-such-date : (x : Date) → iso_exists x ≡ false → iso_day_of x ≡ no_number no_such_date
+pub no-such-date : (x : Date) → iso_exists x ≡ false → iso_day_of x ≡ Err NoSuchDate
 unfolding iso_day_of
 no-such-date x e = rw e
 
-the-day : (x : Date) (n : ℕ) → n ≤ last_day → iso_on n ≡ x → iso_day_of x ≡ the_number n
+the-day : (x : Date) (n : ℕ) → n ≤ last_day → iso_on n ≡ x → iso_day_of x ≡ Ok n
 unfolding iso_day_of iso_on
 the-day x n h e =
     let z : 0 + n ≡ n = omega arith in
     rw (← e, iso-exists n) (rw z at (found iso_next iso_on on-next iso-one-day (suc last_day) 0 n (omega arith)))
 
-pub outside : (x : Date) → iso_exists x ≡ true → ((n : ℕ) → n ≤ last_day → iso_on n ≡ x → ⊥) → iso_day_of x ≡ no_number out_of_range
+pub outside : (x : Date) → iso_exists x ≡ true → ((n : ℕ) → n ≤ last_day → iso_on n ≡ x → ⊥) → iso_day_of x ≡ Err OutOfRange
 unfolding iso_day_of iso_on
 outside x e h = rw e (absent iso_next iso_on on-next iso-one-day (suc last_day) 0 x (λ m l. h m (omega arith)))
 
 -- no date is before that of day 0's year
-pub too-early : (x : Date) → x.year < 1520 → iso_exists x ≡ true → iso_day_of x ≡ no_number out_of_range
+pub too-early : (x : Date) → x.year < 1520 → iso_exists x ≡ true → iso_day_of x ≡ Err OutOfRange
 too-early x h e = outside x e (λ n k i. omega (arith, year-low n, ap (λ (d : Date). d.year) i))
 
 -- the day of a date by the count of days, which computes at once
-abbrev pub iso_counted : Bool → ℕ → NumberAnswer
+abbrev pub iso_counted : Bool → ℕ → Result ℕ Refusal
 iso_counted exists count =
     cond exists
-    (cond (leb epoch_serial count && leb (count - epoch_serial) last_day) (the_number (count - epoch_serial)) (no_number out_of_range))
-    (no_number no_such_date)
+    (cond (leb epoch_serial count && leb (count - epoch_serial) last_day) (Ok (count - epoch_serial)) (Err OutOfRange))
+    (Err NoSuchDate)
 
 pub iso-by-count : (x : Date) → 1182 < x.year → iso_day_of x ≡ iso_counted (iso_exists x) (gregorian_count x)
 iso-by-count x y = one (iso_exists x) refl
   where
-    three : iso_exists x ≡ true → epoch_serial ≤ gregorian_count x → (t : Bool) → leb (gregorian_count x - epoch_serial) last_day ≡ t → iso_day_of x ≡ cond t (the_number (gregorian_count x - epoch_serial)) (no_number out_of_range)
+    three : iso_exists x ≡ true → epoch_serial ≤ gregorian_count x → (t : Bool) → leb (gregorian_count x - epoch_serial) last_day ≡ t → iso_day_of x ≡ cond t (Ok (gregorian_count x - epoch_serial)) (Err OutOfRange)
     three e h true l = the-day x (gregorian_count x - epoch_serial) (leb-true _ _ l) (on-count _ x y e (omega arith))
     three e h false l = outside x e (λ n k i. omega (arith, iso-counts n, ap gregorian_count i, leb-false (gregorian_count x - epoch_serial) last_day l))
 
-    two : iso_exists x ≡ true → (t : Bool) → leb epoch_serial (gregorian_count x) ≡ t → iso_day_of x ≡ cond (t && leb (gregorian_count x - epoch_serial) last_day) (the_number (gregorian_count x - epoch_serial)) (no_number out_of_range)
+    two : iso_exists x ≡ true → (t : Bool) → leb epoch_serial (gregorian_count x) ≡ t → iso_day_of x ≡ cond (t && leb (gregorian_count x - epoch_serial) last_day) (Ok (gregorian_count x - epoch_serial)) (Err OutOfRange)
     two e true l = three e (leb-true epoch_serial (gregorian_count x) l) (leb (gregorian_count x - epoch_serial) last_day) refl
     two e false l = outside x e (λ n k i. omega (arith, iso-counts n, ap gregorian_count i, leb-false epoch_serial (gregorian_count x) l))
 
@@ -96,35 +96,35 @@ late-day x h =
     ∙ rw (← exists-round x x.year h refl, ← count-gregorian x (late-calendar x h)) (sym (by_count x))
 
 -- the day of the date of n is n
-pub iso-day-of-date : (n : ℕ) → n ≤ last_day → iso_day_of (iso_on n) ≡ the_number n
+pub iso-day-of-date : (n : ℕ) → n ≤ last_day → iso_day_of (iso_on n) ≡ Ok n
 iso-day-of-date n h = the-day (iso_on n) n h refl
 
 -- the date of the day of a date is that date: so each day has one date, and the date comes back
-pub iso-date-of-day : (x : Date) (n : ℕ) → iso_day_of x ≡ the_number n → iso_date_of n ≡ the_date x
+pub iso-date-of-day : (x : Date) (n : ℕ) → iso_day_of x ≡ Ok n → iso_date_of n ≡ Ok x
 unfolding iso_date_of
 iso-date-of-day x n e = one (iso_exists x) refl
   where
-    refused : (r : ℕ) → iso_day_of x ≡ no_number (suc r) → cond (leb n last_day) (the_date (iso_on n)) (no_date out_of_range) ≡ the_date x
-    refused r k = let z : ◌≡◌ {A = ℕ} (suc r) 0 = ap (λ (a : NumberAnswer). a.refusal) (sym k ∙ e) in absurd (omega arith)
+    refused : (r : Refusal) → iso_day_of x ≡ Err r → cond (leb n last_day) (Ok (iso_on n)) (Err OutOfRange) ≡ Ok x
+    refused r k = absurd (cc (sym k ∙ e))
 
-    given : iso_exists x ≡ true → 1182 < x.year → (t : Bool) → (leb epoch_serial (gregorian_count x) && leb (gregorian_count x - epoch_serial) last_day) ≡ t → iso_day_of x ≡ cond t (the_number (gregorian_count x - epoch_serial)) (no_number out_of_range) → cond (leb n last_day) (the_date (iso_on n)) (no_date out_of_range) ≡ the_date x
-    given i y false k a = refused 1 a
+    given : iso_exists x ≡ true → 1182 < x.year → (t : Bool) → (leb epoch_serial (gregorian_count x) && leb (gregorian_count x - epoch_serial) last_day) ≡ t → iso_day_of x ≡ cond t (Ok (gregorian_count x - epoch_serial)) (Err OutOfRange) → cond (leb n last_day) (Ok (iso_on n)) (Err OutOfRange) ≡ Ok x
+    given i y false k a = refused OutOfRange a
     given i y true k a =
         let b = (and-eq-true_iff (leb epoch_serial (gregorian_count x)) (leb (gregorian_count x - epoch_serial) last_day)).0 k in
-        let z : gregorian_count x - epoch_serial ≡ n = ap (λ (s : NumberAnswer). s.number) (sym a ∙ e) in
+        let z : gregorian_count x - epoch_serial ≡ n = cc (sym a ∙ e) in
         let low = leb-true epoch_serial (gregorian_count x) b.0 in
         let high = leb-true (gregorian_count x - epoch_serial) last_day b.1 in
-        rw (le-leb n last_day (omega arith)) (ap the_date (on-count n x y i (omega arith)))
+        rw (le-leb n last_day (omega arith)) (ap Ok (on-count n x y i (omega arith)))
 
-    two : iso_exists x ≡ true → (t : Bool) → leb 1520 x.year ≡ t → cond (leb n last_day) (the_date (iso_on n)) (no_date out_of_range) ≡ the_date x
+    two : iso_exists x ≡ true → (t : Bool) → leb 1520 x.year ≡ t → cond (leb n last_day) (Ok (iso_on n)) (Err OutOfRange) ≡ Ok x
     two i true k =
         let y : 1182 < x.year = omega (arith, leb-true 1520 x.year k) in
         given i y _ refl (iso-by-count x y ∙ rw i)
-    two i false k = refused 1 (too-early x (leb-false 1520 x.year k) i)
+    two i false k = refused OutOfRange (too-early x (leb-false 1520 x.year k) i)
 
-    one : (t : Bool) → iso_exists x ≡ t → cond (leb n last_day) (the_date (iso_on n)) (no_date out_of_range) ≡ the_date x
+    one : (t : Bool) → iso_exists x ≡ t → cond (leb n last_day) (Ok (iso_on n)) (Err OutOfRange) ≡ Ok x
     one true i = two i (leb 1520 x.year) refl
-    one false i = refused 0 (no-such-date x i)
+    one false i = refused NoSuchDate (no-such-date x i)
 
 -- from 15 October 1582 on the ISO date is the civil date, number for number
 pub from-gregorian : (n : ℕ) → 22845 ≤ n → iso_on n ≡ date_on n
@@ -140,7 +140,7 @@ from-gregorian n h =
         omega (arith, ltb-true last_julian_stamp (stamp_of (date_on n)) g, months (date_on n) f, year-long (date_on n) f, f)
 
 -- what the civil day of the date 400 years later says of a date of the years 1520 to 1582
-module _ (x : Date) (low : 1520 ≤ x.year) (high : x.year ≤ 1582) (a : NumberAnswer) (e : a ≡ day_of_date (later x)) where
+module _ (x : Date) (low : 1520 ≤ x.year) (high : x.year ≤ 1582) where
   -- by the count of days it is in range
   counts : iso_exists x ≡ true → (epoch_serial ≤ gregorian_count x + round_days) × (gregorian_count x + round_days - epoch_serial ≤ last_day)
   counts i =
@@ -149,41 +149,41 @@ module _ (x : Date) (low : 1520 ≤ x.year) (high : x.year ≤ 1582) (a : Number
       let l = year-long (later x) f in
       omega (arith, later-year true 1919 (year_of x) (omega (arith, f)), later-year true (year_of x) 1982 (omega (arith, f)))
 
-  told : a ≡ cond (iso_exists x) (the_number (gregorian_count x + round_days - epoch_serial)) (no_number no_such_date)
+  told : day_of_date (later x) ≡ cond (iso_exists x) (Ok (gregorian_count x + round_days - epoch_serial)) (Err NoSuchDate)
   unfolding counted
-  told = e ∙ by_count (later x) ∙ rw (exists-later x (omega arith), serial-later x (omega arith)) (go (iso_exists x) refl)
+  told = by_count (later x) ∙ rw (exists-later x (omega arith), serial-later x (omega arith)) (go (iso_exists x) refl)
     where
-      go : (t : Bool) → iso_exists x ≡ t → iso_counted t (gregorian_count x + round_days) ≡ cond t (the_number (gregorian_count x + round_days - epoch_serial)) (no_number no_such_date)
+      go : (t : Bool) → iso_exists x ≡ t → iso_counted t (gregorian_count x + round_days) ≡ cond t (Ok (gregorian_count x + round_days - epoch_serial)) (Err NoSuchDate)
       go false i = refl
       go true i = let b = counts i in rw (le-leb _ _ b.0, le-leb _ _ b.1)
 
-  pub later-refused : (a.refusal ≡ 0 → ⊥) → a ≡ iso_day_of x
-  later-refused n = go (iso_exists x) refl told
+  pub later-refused : {r : Refusal} → Err r ≡ day_of_date (later x) → Err r ≡ iso_day_of x
+  later-refused {r} e = go (iso_exists x) refl (e ∙ told)
     where
-      go : (t : Bool) → iso_exists x ≡ t → a ≡ cond t (the_number (gregorian_count x + round_days - epoch_serial)) (no_number no_such_date) → a ≡ iso_day_of x
-      go true i k = absurd (n (ap (λ (r : NumberAnswer). r.refusal) k))
+      go : (t : Bool) → iso_exists x ≡ t → Err r ≡ cond t (Ok (gregorian_count x + round_days - epoch_serial)) (Err NoSuchDate) → Err r ≡ iso_day_of x
+      go true i k = absurd cc
       go false i k = k ∙ sym (no-such-date x i)
 
   -- one that is no refusal has the number
-  number : a.refusal ≡ 0 → (iso_exists x ≡ true) × (a.number ≡ gregorian_count x + round_days - epoch_serial)
-  number z = go (iso_exists x) refl told
+  number : {n : ℕ} → Ok n ≡ day_of_date (later x) → (iso_exists x ≡ true) × (n ≡ gregorian_count x + round_days - epoch_serial)
+  number {n} e = go (iso_exists x) refl (e ∙ told)
     where
-      go : (t : Bool) → iso_exists x ≡ t → a ≡ cond t (the_number (gregorian_count x + round_days - epoch_serial)) (no_number no_such_date) → (iso_exists x ≡ true) × (a.number ≡ gregorian_count x + round_days - epoch_serial)
-      go true i k = (i, ap (λ (r : NumberAnswer). r.number) k)
-      go false i k = let o : ◌≡◌ {A = ℕ} 1 0 = sym (ap (λ (r : NumberAnswer). r.refusal) k) ∙ z in absurd (omega arith)
+      go : (t : Bool) → iso_exists x ≡ t → Ok n ≡ cond t (Ok (gregorian_count x + round_days - epoch_serial)) (Err NoSuchDate) → (iso_exists x ≡ true) × (n ≡ gregorian_count x + round_days - epoch_serial)
+      go true i k = (i, cc)
+      go false i k = absurd cc
 
-  pub later-early : a.refusal ≡ 0 → a.number < round_days → no_number out_of_range ≡ iso_day_of x
-  later-early z h =
-      let n = number z in
+  pub later-early : {n : ℕ} → Ok n ≡ day_of_date (later x) → n < round_days → Err OutOfRange ≡ iso_day_of x
+  later-early e h =
+      let n = number e in
       let b = counts n.0 in
       sym (iso-by-count x (omega arith) ∙ rw (n.0, lt-leb epoch_serial (gregorian_count x) (omega (arith, n.1))))
 
-  pub later-day : a.refusal ≡ 0 → round_days ≤ a.number → the_number (a.number - round_days) ≡ iso_day_of x
-  later-day z h =
-      let n = number z in
-      let b = counts n.0 in
-      let d : a.number - round_days ≡ gregorian_count x - epoch_serial = omega (arith, n.1) in
-      rw d (sym (iso-by-count x (omega arith) ∙ rw (n.0, le-leb epoch_serial (gregorian_count x) (omega (arith, n.1)), le-leb (gregorian_count x - epoch_serial) last_day (omega arith))))
+  pub later-day : {n : ℕ} → Ok n ≡ day_of_date (later x) → round_days ≤ n → Ok (n - round_days) ≡ iso_day_of x
+  later-day {n} e h =
+      let m = number e in
+      let b = counts m.0 in
+      let d : n - round_days ≡ gregorian_count x - epoch_serial = omega (arith, m.1) in
+      rw d (sym (iso-by-count x (omega arith) ∙ rw (m.0, le-leb epoch_serial (gregorian_count x) (omega (arith, m.1)), le-leb (gregorian_count x - epoch_serial) last_day (omega arith))))
 
 -- the numbers of a day's date are small
 pub iso-small : (n : ℕ) → n ≤ last_day → ((iso_on n).year < 10000) × (((iso_on n).month < 100) × ((iso_on n).day < 100))
@@ -195,12 +195,11 @@ iso-small n h =
     (omega (arith, months (later x) f, f.to-twelve), (omega (arith, f.to-twelve), omega (arith, (placed (later x) f).small)))
 
 -- the day of a date is a day
-pub iso-low : (x : Date) → (iso_day_of x).refusal ≡ 0 → (iso_day_of x).number ≤ last_day
-iso-low x e = go (leb (iso_day_of x).number last_day) refl (iso-date-of-day x (iso_day_of x).number (λ i. record { refusal = e i; number = (iso_day_of x).number }))
+pub iso-low : (x : Date) {n : ℕ} → Ok n ≡ iso_day_of x → n ≤ last_day
+iso-low x {n} e = go (leb n last_day) refl (iso-date-of-day x n (sym e))
   where
-    go : (t : Bool) → leb (iso_day_of x).number last_day ≡ t → iso_date_of (iso_day_of x).number ≡ the_date x → (iso_day_of x).number ≤ last_day
+    go : (t : Bool) → leb n last_day ≡ t → iso_date_of n ≡ Ok x → n ≤ last_day
     go true h r = leb-true _ _ h
     go false h r =
-        let none : iso_date_of (iso_day_of x).number ≡ no_date out_of_range = unfold iso_date_of in rw h in
-        let z : ◌≡◌ {A = ℕ} 2 0 = ap (λ (a : DateAnswer). a.refusal) (sym none ∙ r) in
-        absurd (omega arith)
+        let none : iso_date_of n ≡ Err OutOfRange = unfold iso_date_of in rw h in
+        absurd (cc (sym none ∙ r))

@@ -1,3 +1,4 @@
 mod Later
 pub mod Laws
 pub mod Worked
+mod Dues

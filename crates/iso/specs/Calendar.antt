@@ -1,14 +1,13 @@
 -- The calendar of ISO 8601 dates: which dates there are, which comes after which, and each day's date. Gregorian in
 -- every year, before 1582 too.
 -- Assumes nothing.
-use Rattle.std.specs.Prelude.{Bool, cond, ◌&&◌, ℕ, zero, suc, ◌+◌, leb, ltb}
-use Rattle.days.specs.declared.NumberAnswer.{NumberAnswer}
-use Rattle.days.specs.Refusals.{no_such_date, out_of_range}
-use Rattle.days.specs.Days.{last_day, no_number}
+use Rattle.std.specs.Prelude.{Bool, cond, ◌&&◌, ℕ, zero, suc, ◌+◌, leb, ltb, Result, Ok, Err}
+use Rattle.days.specs.declared.refusal.Refusal.{Refusal}
+use Rattle.days.specs.declared.refusal.Refusal.TheVariants.{NoSuchDate, OutOfRange}
+use Rattle.days.specs.Days.{last_day}
 use Rattle.civil.specs.declared.Date.{Date}
-use Rattle.civil.specs.declared.DateAnswer.{DateAnswer}
 use Rattle.civil.specs.Calendar.{month_days}
-use Rattle.civil.specs.Answers.{day_from, the_date, no_date}
+use Rattle.civil.specs.Answers.{day_from}
 
 -- the days of a month by the Gregorian rule: after 400 years it begins anew, and from 1583 on the civil calendar has
 -- it, so those of the civil year 1600 later
@@ -38,9 +37,9 @@ iso_on zero = iso_epoch
 iso_on (suc n) = iso_next (iso_on n)
 
 -- the day of a date, sought date by date over all days from day 0 on
-unfoldable pub iso_day_of : Date → NumberAnswer
-iso_day_of x = cond (iso_exists x) (day_from iso_next (suc last_day) 0 iso_epoch x) (no_number no_such_date)
+unfoldable pub iso_day_of : Date → Result ℕ Refusal
+iso_day_of x = cond (iso_exists x) (day_from iso_next (suc last_day) 0 iso_epoch x) (Err NoSuchDate)
 
 -- the date of a day
-unfoldable pub iso_date_of : ℕ → DateAnswer
-iso_date_of n = cond (leb n last_day) (the_date (iso_on n)) (no_date out_of_range)
+unfoldable pub iso_date_of : ℕ → Result Date Refusal
+iso_date_of n = cond (leb n last_day) (Ok (iso_on n)) (Err OutOfRange)

@@ -5,9 +5,10 @@
 ghost use Rattle.std.specs.Prelude.{◌≡◌, true, ◌*◌, ◌/◌, ◌<◌};
 ghost use Rattle.days.specs.Days.{in_range};
 ghost use Rattle.longitudes.specs.Longitudes.{difference_of};
-ghost use Rattle.longitudes.specs.Answers.{body_number, the_longitude, longitude_of, thirds_of, longitudes_of};
+ghost use Rattle.longitudes.specs.Answers.{body_number, the_longitude, the_nine, longitude_of, thirds_of, longitudes_of};
 
-use days::{Day, NumberAnswer, refusal};
+use days::Day;
+use days::refusal::Refusal;
 
 // Seconds of arc in a circle.
 pub const CIRCLE: u32 = 1296000;
@@ -15,7 +16,7 @@ pub const CIRCLE: u32 = 1296000;
 // How many bodies there are.
 pub const BODIES: usize = 9;
 
-#[derive(Clone, Copy)]
+#[derive(Clone, Copy, PartialEq, Eq)]
 pub enum Body {
     Sun,
     Moon,
@@ -28,7 +29,16 @@ pub enum Body {
     Saturn,
 }
 
-// The bodies by their numbers.
+impl Body {
+    // Its row's number in the table.
+    fn number(self) -> usize
+        ensures { (result ≡ body_number self) × (result < 9) }
+    {
+        self as usize
+    }
+}
+
+// The bodies by their numbers, for a loop over them.
 pub const IN_ORDER: [Body; BODIES] = [
     Body::Sun,
     Body::Moon,
@@ -42,19 +52,18 @@ pub const IN_ORDER: [Body; BODIES] = [
 ];
 
 // One body's: its whole seconds, and what was left over of the exact longitude, as a fraction of a second with this
-// divisor. A refusal has all zeros.
+// divisor.
 #[derive(Clone, Copy)]
 pub struct MeanLongitude {
-    pub refusal: u32,
     pub seconds: u32,
     pub remainder: u32,
     pub divisor: u32,
 }
 
-// The nine in the order of `Body`, whole seconds and thirds; a refusal has all zeros.
+// The nine in the order of `Body`, whole seconds and thirds.
+// Kept: two arrays and not one of pairs, since the laws `nine-at` and `thirds-nine-at` speak of each alone.
 #[derive(Clone, Copy)]
 pub struct MeanLongitudes {
-    pub refusal: u32,
     pub longitudes: [u32; BODIES],
     pub thirds: [u32; BODIES],
 }
@@ -172,7 +181,6 @@ fn longitude(body: usize, day: Day) -> MeanLongitude
     let seconds = (whole % CIRCLE as u64) as u32;
     let remainder = (moved % divisor) as u32;
     MeanLongitude {
-        refusal: refusal::NONE,
         seconds,
         remainder,
         divisor: row.q,
@@ -188,84 +196,47 @@ fn thirds_of(remainder: u32, divisor: u32) -> u32
     sixtieths / divisor
 }
 
-fn number(body: Body) -> usize
-    ensures { (result ≡ body_number body) × (result < 9) }
-{
-    match body {
-        Body::Sun => 0,
-        Body::Moon => 1,
-        Body::MoonApogee => 2,
-        Body::MoonNode => 3,
-        Body::Mars => 4,
-        Body::MercuryAnomaly => 5,
-        Body::Jupiter => 6,
-        Body::VenusAnomaly => 7,
-        Body::Saturn => 8,
-    }
-}
-
 // One body's; with a constant body its row folds in.
-pub fn mean_longitude(body: Body, day: Day) -> MeanLongitude
+#[tactic(auto, unfolding(crate::specs::Answers::longitude_of, days::specs::Days::answer_on))]
+pub fn mean_longitude(body: Body, day: Day) -> Result<MeanLongitude, Refusal>
     ensures { result ≡ longitude_of body day }
 {
     if day.in_range() {
-        let index = number(body);
-        longitude(index, day)
+        let index = body.number();
+        Ok(longitude(index, day))
     } else {
-        MeanLongitude {
-            refusal: refusal::OUT_OF_RANGE,
-            seconds: 0,
-            remainder: 0,
-            divisor: 0,
-        }
+        Err(Refusal::OutOfRange)
     }
 }
 
 // One body's thirds, sixtieths of a second.
-pub fn mean_thirds(body: Body, day: Day) -> NumberAnswer
+pub fn mean_thirds(body: Body, day: Day) -> Result<u32, Refusal>
     ensures { result ≡ thirds_of body day }
 {
-    if day.in_range() {
-        let at = number(body);
-        let found = longitude(at, day);
-        let thirds = thirds_of(found.remainder, found.divisor);
-        NumberAnswer::accepted(thirds)
-    } else {
-        NumberAnswer::OUT_OF_RANGE
-    }
+    let found = mean_longitude(body, day)?;
+    Ok(thirds_of(found.remainder, found.divisor))
 }
 
 fn nine(day: Day) -> MeanLongitudes
     requires { in_range day ≡ true }
-    ensures { result ≡ longitudes_of day }
+    ensures { result ≡ the_nine day }
 {
     let mut longitudes = [0u32; BODIES];
     let mut thirds = [0u32; BODIES];
-    let mut i = 0;
-    while i < BODIES {
+    for i in 0..BODIES {
         let found = longitude(i, day);
         longitudes[i] = found.seconds;
         thirds[i] = thirds_of(found.remainder, found.divisor);
-        i += 1;
     }
-    MeanLongitudes {
-        refusal: refusal::NONE,
-        longitudes,
-        thirds,
-    }
+    MeanLongitudes { longitudes, thirds }
 }
 
-pub fn mean_longitudes(day: Day) -> MeanLongitudes
+#[tactic(auto, unfolding(crate::specs::Answers::longitudes_of, days::specs::Days::answer_on))]
+pub fn mean_longitudes(day: Day) -> Result<MeanLongitudes, Refusal>
     ensures { result ≡ longitudes_of day }
 {
-    if day.in_range() {
-        nine(day)
-    } else {
-        let zeros = [0u32; BODIES];
-        MeanLongitudes {
-            refusal: refusal::OUT_OF_RANGE,
-            longitudes: zeros,
-            thirds: zeros,
-        }
+    if !day.in_range() {
+        return Err(Refusal::OutOfRange);
     }
+    Ok(nine(day))
 }

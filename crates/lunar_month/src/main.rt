@@ -4,6 +4,5 @@
 fn main(rt: HostRuntime) {
     let mut stdin = rt.stdin();
     let mut buffer = [0u8; text::TOO_LONG];
-    let n = input::read_input(&mut stdin, &mut buffer);
-    output::print(lunar_month_sheet::sheet(&buffer[..n]));
+    let _ = output::print(lunar_month_sheet::sheet(input::read_bytes(&mut stdin, &mut buffer)));
 }

@@ -8,13 +8,13 @@ use native.Mathlib.Omega.{arith}
 use lib.Dec.{leb}
 use lib.ListN.{length, get_or}
 use borrow.Author.Tests.{lt-ltb, le-leb, lt-leb}
-use Rattle.days.specs.declared.NumberAnswer.{NumberAnswer}
+use Rattle.std.specs.Prelude.{None, Ok}
 use Rattle.days.specs.Days.{days_from}
 use Rattle.entries.specs.Entries.{capacity, entry_day, entry_at}
 use Rattle.entries.proofs.Filter.{filtered-out}
 use Rattle.lunar_months.specs.declared.Added.{Added}
-use Rattle.lunar_months.specs.declared.MonthAt.TheVariants.{Start, NoStart}
-use Rattle.lunar_months.specs.MonthStarts.{starts_month, month_starts, latest_or, latest_of, month_numbers}
+use Rattle.lunar_months.specs.MonthStarts.{starts_month, month_starts, latest_or, start_on, latest_of}
+use Rattle.lunar_months.specs.Numbers.{month_numbers}
 use Rattle.lunar_months.specs.Rows.{last_entry}
 use Rattle.lunar_months.specs.Parts.{Counted}
 
@@ -27,34 +27,34 @@ from-epoch e n =
 
 -- what is counted of a list of days tells its latest
 module _ (ds : List ℕ) (added : Added) (c : Counted ds added) where
-  pub latest-none : added.count ≡ 0 → latest_of ds ≡ NoStart
+  pub latest-none : added.count ≡ 0 → latest_of ds ≡ None
   unfolding latest_of
   latest-none h = go ds (sym c.count ∙ h)
     where
-      go : (xs : List ℕ) → length xs ≡ 0 → latest_of xs ≡ NoStart
+      go : (xs : List ℕ) → length xs ≡ 0 → latest_of xs ≡ None
       go [] z = refl
       go (x ∷ xs) z = absurd (omega arith)
 
-  pub latest-start : (added.count ≡ 0 → ⊥) → latest_of ds ≡ Start added.latest added.count
+  pub latest-start : (added.count ≡ 0 → ⊥) → latest_of ds ≡ start_on added.latest added.count
   unfolding latest_of latest_or
-  latest-start h = go ds (λ z. h (c.count ∙ z)) ∙ ap₂ Start (sym c.latest) (sym c.count)
+  latest-start h = go ds (λ z. h (c.count ∙ z)) ∙ ap₂ start_on (sym c.latest) (sym c.count)
     where
-      go : (xs : List ℕ) → (length xs ≡ 0 → ⊥) → latest_of xs ≡ Start (latest_or 0 xs) (length xs)
+      go : (xs : List ℕ) → (length xs ≡ 0 → ⊥) → latest_of xs ≡ start_on (latest_or 0 xs) (length xs)
       go [] z = absurd (z refl)
       go (x ∷ xs) z = refl
 
 -- entry k of a list that has it
-pub entry_read : (list : List ℕ) (k : ℕ) {entry : NumberAnswer} → k < capacity list → entry ≡ entry_at list k → entry.number ≡ entry_day list k
+pub entry_read : (list : List ℕ) (k : ℕ) {n : ℕ} → k < capacity list → Ok n ≡ entry_at list k → n ≡ entry_day list k
 unfolding entry_at
-entry_read list k h e = ap (λ (a : NumberAnswer). a.number) e ∙ rw (lt-ltb _ _ h)
+entry_read list k {n} h e = let f : Ok n ≡ Ok (entry_day list k) = e ∙ rw (lt-ltb _ _ h) in cc
 
 -- of the first k entries the last is the one, or it is after the day
 module _ (list : List ℕ) (day k : ℕ) (h : 0 < k) where
-  pub entry_here : entry_day list (k - 1) ≤ day → last_entry list day k ≡ Start (entry_day list (k - 1)) k
+  pub entry_here : entry_day list (k - 1) ≤ day → last_entry list day k ≡ start_on (entry_day list (k - 1)) k
   unfolding last_entry
   entry_here l =
       let s : k ≡ suc (k - 1) = omega arith in
-      ap (last_entry list day) s ∙ rw (le-leb _ _ l) (ap (Start (entry_day list (k - 1))) (sym s))
+      ap (last_entry list day) s ∙ rw (le-leb _ _ l) (ap (start_on (entry_day list (k - 1))) (sym s))
 
   pub entry-after : day < entry_day list (k - 1) → last_entry list day k ≡ last_entry list day (k - 1)
   unfolding last_entry
@@ -62,7 +62,7 @@ module _ (list : List ℕ) (day k : ℕ) (h : 0 < k) where
       let s : k ≡ suc (k - 1) = omega arith in
       ap (last_entry list day) s ∙ rw (lt-leb _ _ l)
 
-pub no-entry : (list : List ℕ) (day k : ℕ) → k ≤ 0 → last_entry list day k ≡ NoStart
+pub no-entry : (list : List ℕ) (day k : ℕ) → k ≤ 0 → last_entry list day k ≡ None
 unfolding last_entry
 no-entry list day k h = let z : k ≡ 0 = omega arith in ap (last_entry list day) z
 
@@ -85,14 +85,14 @@ module _ (list : List ℕ) (starts day : ℕ) where
 
   module _ (number : ℕ) (l : Looking list starts day number) where
     module _ (more : 0 < number) (start : ℕ) (e : start ≡ entry_day list (number - 1)) where
-      pub looking-here : start ≤ day → Start start number ≡ last_entry list day starts
+      pub looking-here : start ≤ day → start_on start number ≡ last_entry list day starts
       looking-here h = rw e (sym (entry_here list day number more (omega arith)) ∙ l.meant)
 
       pub looking-on : day < start → Looking list starts day (number - 1)
       looking-on h =
           record { most = omega (arith, l.most); meant = sym (entry-after list day number more (omega arith)) ∙ l.meant }
 
-    pub looking-end : number ≤ 0 → NoStart ≡ last_entry list day starts
+    pub looking-end : number ≤ 0 → None ≡ last_entry list day starts
     looking-end h = sym (no-entry list day number h) ∙ l.meant
 
 module _ (list : List ℕ) (starts day number : ℕ) (l : Looking list starts day number) where
@@ -104,7 +104,7 @@ module _ (list : List ℕ) (starts day number : ℕ) (l : Looking list starts da
     same : number - 2 ≡ number - 1 - 1
     same = omega arith
 
-    pub looking-before : before ≤ day → Start before (number - 1) ≡ last_entry list day starts
+    pub looking-before : before ≤ day → start_on before (number - 1) ≡ last_entry list day starts
     looking-before = looking-here list starts day (number - 1) one (omega arith) before (f ∙ ap (entry_day list) same)
 
     pub looking-two : day < before → Looking list starts day (number - 2)
@@ -118,21 +118,21 @@ module _ (list : List ℕ) (starts day number : ℕ) (l : Looking list starts da
     there : first ≡ entry_day list (number - 1)
     there = rw left e
 
-    pub looking-first : first ≤ day → Start first 1 ≡ last_entry list day starts
-    looking-first h = ap (Start first) (sym left) ∙ looking-here list starts day number l (omega (arith, left)) first there h
+    pub looking-first : first ≤ day → start_on first 1 ≡ last_entry list day starts
+    looking-first h = ap (start_on first) (sym left) ∙ looking-here list starts day number l (omega (arith, left)) first there h
 
-    pub looking-none : day < first → NoStart ≡ last_entry list day starts
+    pub looking-none : day < first → None ≡ last_entry list day starts
     looking-none h = looking-end list starts day (number - 1) (looking-on list starts day number l (omega (arith, left)) first there h) (omega (arith, left))
 
 -- its place is one of them
-pub last-most : (list : List ℕ) (day k : ℕ) → (month_numbers (last_entry list day k)).number ≤ k
+pub last-most : (list : List ℕ) (day k : ℕ) → (month_numbers (Ok (last_entry list day k))).number ≤ k
 unfolding last_entry month_numbers
 last-most list day zero = omega arith
 last-most list day (suc k) = go (leb (entry_day list k) day) (last-most list day k)
   where
     go :
         (t : Bool) →
-        (month_numbers (last_entry list day k)).number ≤ k →
-        (month_numbers (cond t (Start (entry_day list k) (suc k)) (last_entry list day k))).number ≤ suc k
+        (month_numbers (Ok (last_entry list day k))).number ≤ k →
+        (month_numbers (Ok (cond t (start_on (entry_day list k) (suc k)) (last_entry list day k)))).number ≤ suc k
     go true h = omega arith
     go false h = omega arith

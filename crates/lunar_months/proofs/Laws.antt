@@ -16,10 +16,12 @@ use Rattle.entries.proofs.Putting.{put-append, put_all, put-length}
 use Rattle.entries.proofs.Lists.{Ascending, Has, days-ascend, listed, has-filtered, in-days}
 use Rattle.panchanga.specs.TrueLongitudes.{is_edition}
 use Rattle.lunar_months.specs.declared.Months.{Months}
-use Rattle.lunar_months.specs.declared.MonthsAnswer.{MonthsAnswer}
-use Rattle.lunar_months.specs.declared.MonthAt.TheVariants.{NoStart}
+use Rattle.std.specs.Prelude.{Option, None, Ok, Err}
+use Rattle.std.specs.Result.{result_map_both}
+use Rattle.lunar_months.specs.declared.MonthStart.{MonthStart}
+use Rattle.lunar_months.specs.declared.MonthRefusal.TheVariants.{Refused, TooShort}
 use Rattle.lunar_months.specs.MonthStarts.{starts_month, month_starts, latest_of, month_on}
-use Rattle.lunar_months.specs.Rows.{the_row, no_row, new_row, starts_behind, extended_by, list_after, month_at}
+use Rattle.lunar_months.specs.Rows.{the_row, new_row, starts_behind, extended_by, list_after, month_at}
 use Rattle.lunar_months.proofs.Latest.{from-epoch}
 use Rattle.lunar_months.proofs.Answers.{Extendable, extendable, past_end, extended_fits, extended-short, fits-accepted, list-grown, question-answered, may-ask}
 use Rattle.lunar_months.proofs.Made.{starts-join, on-made}
@@ -44,12 +46,12 @@ unfolding month_starts
 starts-ascend e n m = days-ascend (starts_month e) n m
 
 -- none is said exactly if there is none
-pub none_said : (ds : List ℕ) → latest_of ds ≡ NoStart → ds ≡ []
+pub none_said : (ds : List ℕ) → latest_of ds ≡ None → ds ≡ []
 unfolding latest_of
 none_said [] h = refl
-none_said (d ∷ ds) h = let z : ◌≡◌ {A = ℕ} 0 1 = cc in absurd (omega arith)
+none_said (d ∷ ds) h = absurd cc
 
-pub none-there : latest_of [] ≡ NoStart
+pub none-there : latest_of [] ≡ None
 unfolding latest_of
 none-there = refl
 
@@ -79,20 +81,21 @@ module _ (row : Months) (a b : ℕ) where
             Dec (row.starts + length (starts_behind row a) + length (starts_behind (further row a) b) ≤ room) →
             extended_by (further row a) b room ≡ extended_by row (a + b) room
         go (no w) d = past_end (further row a) b room x.days.edition (omega (arith, x.days.some)) (omega (arith, x.days.within)) (omega arith) ∙ sym (past_end row (a + b) room x.days.edition x.days.some (omega (arith, x.days.within)) (omega arith))
-        go (yes w) (yes k) = sym (extended_fits (further row a) b room (grown-on w) _ refl k) ∙ same_row ∙ extended_fits row (a + b) room (at_once w) _ refl (omega (arith, both, k))
+        go (yes w) (yes k) = sym (extended_fits (further row a) b room (grown-on w) _ refl k) ∙ ap Ok same_row ∙ extended_fits row (a + b) room (at_once w) _ refl (omega (arith, both, k))
         go (yes w) (no k) =
             let n : row.starts + length (starts_behind row a) + length (starts_behind (further row a) b) ≡ row.starts + length (starts_behind row (a + b)) = omega (arith, both) in
-            sym (extended-short (further row a) b room (grown-on w) _ refl (omega arith)) ∙ ap (no_row 7) n ∙ extended-short row (a + b) room (at_once w) _ refl (omega (arith, both, k))
+            sym (extended-short (further row a) b room (grown-on w) _ refl (omega arith)) ∙ ap (λ (m : ℕ). Err (TooShort m)) n ∙ extended-short row (a + b) room (at_once w) _ refl (omega (arith, both, k))
 
   -- EXTENDING BY a AND THEN BY b is extending by a + b, refusals and their numbers included
-  pub extend-on : (room : ℕ) → (extended_by row a room).refusal ≡ 0 → extended_by (extended_by row a room).months b room ≡ extended_by row (a + b) room
-  extend-on room h =
+  pub extend-on : (room : ℕ) {r : Months} → Ok r ≡ extended_by row a room → extended_by r b room ≡ extended_by row (a + b) room
+  extend-on room {r} h =
       let x = extendable row a room h in
       let f = fits-accepted row a room x h in
-      ap (λ (r : MonthsAnswer). extended_by r.months b room) (sym (extended_fits row a room x _ refl f)) ∙ same-extension room x f
+      let i : r ≡ further row a = cc (extended_fits row a room x _ refl f) in
+      rw i (same-extension room x f)
 
-  -- and so is the list, where the whole extension is accepted
-  pub list_on : (list : List ℕ) → (extended_by row (a + b) (capacity list)).refusal ≡ 0 → list_after (extended_by row a (capacity list)).months b (list_after row a list) ≡ list_after row (a + b) list
+  -- and so is the list, where the whole extension is accepted: then so is the first
+  pub list_on : (list : List ℕ) {s : Months} → Ok s ≡ extended_by row (a + b) (capacity list) → (r : Months) × (Ok r ≡ extended_by row a (capacity list)) × (list_after r b (list_after row a list) ≡ list_after row (a + b) list)
   list_on list h =
       let room = capacity list in
       let whole = extendable row (a + b) room h in
@@ -100,47 +103,56 @@ module _ (row : Months) (a b : ℕ) where
       let x : Extendable row a room = record { days = record { edition = whole.days.edition; some = whole.days.some; within = omega (arith, whole.days.within) }; stored = whole.stored } in
       let f : row.starts + length (starts_behind row a) ≤ room = omega (arith, few, both) in
       let first = extended_fits row a room x _ refl f in
-      let put = list-grown row a list (sym (ap (λ (r : MonthsAnswer). r.refusal) first)) in
+      let put = list-grown row a list first in
       let same = put-length list row.starts (starts_behind row a) in
-      let second : (extended_by (further row a) b (capacity (with_entries_from list row.starts (starts_behind row a)))).refusal ≡ 0 =
-      ap (λ (n : ℕ). (extended_by (further row a) b (n / 4)).refusal) same ∙ ap (λ (r : MonthsAnswer). r.refusal) (same-extension room x f) ∙ h in
-      ap₂ (λ (r : MonthsAnswer) (l : List ℕ). list_after r.months b l) (sym first) put
-      ∙ list-grown (further row a) b (with_entries_from list row.starts (starts_behind row a)) second
-      ∙ sym (put-append list row.starts (starts_behind row a) (starts_behind (further row a) b))
-      ∙ ap (with_entries_from list row.starts) (sym (starts-join row.edition row.covered a b))
-      ∙ sym (list-grown row (a + b) list h)
+      let second = h ∙ sym (same-extension room x f) ∙ sym (ap (λ (n : ℕ). extended_by (further row a) b (n / 4)) same) in (
+        further row a,
+        first,
+        ap (list_after (further row a) b) put
+            ∙ list-grown (further row a) b (with_entries_from list row.starts (starts_behind row a)) second
+            ∙ sym (put-append list row.starts (starts_behind row a) (starts_behind (further row a) b))
+            ∙ ap (with_entries_from list row.starts) (sym (starts-join row.edition row.covered a b))
+            ∙ sym (list-grown row (a + b) list h),
+      )
+
+-- an edition has a new row
+pub new-is : (e : ℕ) → is_edition e ≡ true → new_row e ≡ Ok (the_row e 0 1)
+unfolding new_row
+new-is e t = rw t
 
 -- A ROW MADE FROM A NEW ONE, by any days that there are: exactly the month starts of its covered days
 module _ (e n : ℕ) (list : List ℕ) (t : is_edition e ≡ true) (h : n ≤ last_day) (fits : length (month_starts e 0 (n + 1)) ≤ capacity list) where
-  new_is : new_row e ≡ the_row e 0 1
-  unfolding new_row
-  new_is = rw t
-
-  made-first : Extendable (record { edition = e; starts = 0; covered = 1 }) n (capacity list)
+  made-first : Extendable (the_row e 0 1) n (capacity list)
   made-first = record { days = record { edition = t; some = omega arith; within = omega arith }; stored = omega arith }
 
-  made-is : the_row e (length (month_starts e 0 (n + 1))) (n + 1) ≡ extended_by (record { edition = e; starts = 0; covered = 1 }) n (capacity list)
+  made-is : Ok (the_row e (length (month_starts e 0 (n + 1))) (n + 1)) ≡ extended_by (the_row e 0 1) n (capacity list)
   made-is =
       let l = ap length (from-epoch e n) in
-      ap₂ (the_row e) (omega (arith, l)) (omega arith) ∙ extended_fits _ n (capacity list) made-first _ refl (omega (arith, l))
+      ap₂ (λ (s c : ℕ). Ok (the_row e s c)) (omega (arith, l)) (omega arith) ∙ extended_fits _ n (capacity list) made-first _ refl (omega (arith, l))
 
-  pub row_made : extended_by (new_row e).months n (capacity list) ≡ the_row e (length (month_starts e 0 (n + 1))) (n + 1)
-  row_made = ap (λ (r : MonthsAnswer). extended_by r.months n (capacity list)) new_is ∙ sym made-is
-
-  pub list-made : list_after (new_row e).months n list ≡ with_entries (month_starts e 0 (n + 1)) list
-  list-made =
-      ap (λ (r : MonthsAnswer). list_after r.months n list) new_is
-      ∙ list-grown (record { edition = e; starts = 0; covered = 1 }) n list (sym (ap (λ (r : MonthsAnswer). r.refusal) made-is))
-      ∙ ap (with_entries_from list 0) (sym (from-epoch e n))
-      ∙ put_all (month_starts e 0 (n + 1)) list fits
-
-  of-entries : (d : ℕ) → d ≤ n → month_at (record { edition = e; starts = length (month_starts e 0 (n + 1)); covered = n + 1 }) (with_entries (month_starts e 0 (n + 1)) list) e d ≡ month_on e d
+  of-entries : (d : ℕ) → d ≤ n → month_at (the_row e (length (month_starts e 0 (n + 1))) (n + 1)) (with_entries (month_starts e 0 (n + 1)) list) e d ≡ result_map_both (λ (m : Option MonthStart). m) Refused (month_on e d)
   unfolding month_on
   of-entries d k =
       let made = with-entries-length (month_starts e 0 (n + 1)) list fits in
       let day : d ≤ last_day = omega arith in
-      question-answered _ _ e d (may-ask e n d _ t h k) (omega (arith, made, fits)) ∙ on-made e (n + 1) list (omega arith) fits d (omega arith) ∙ sym (rw (t, le-leb _ _ day))
+      question-answered _ _ e d (may-ask e n d _ t h k) (omega (arith, made, fits)) ∙ ap Ok (on-made e (n + 1) list (omega arith) fits d (omega arith)) ∙ sym (rw (t, le-leb _ _ day))
 
-  -- ON SUCH A ROW the month of a covered day is the day's own
-  pub month-made : (d : ℕ) → d ≤ n → month_at (extended_by (new_row e).months n (capacity list)).months (list_after (new_row e).months n list) e d ≡ month_on e d
-  month-made d k = ap₂ (λ (r : MonthsAnswer) (l : List ℕ). month_at r.months l e d) row_made list-made ∙ of-entries d k
+  module _ {r : Months} (new : Ok r ≡ new_row e) where
+    first-is : r ≡ the_row e 0 1
+    first-is = cc (new-is e t)
+
+    pub row_made : extended_by r n (capacity list) ≡ Ok (the_row e (length (month_starts e 0 (n + 1))) (n + 1))
+    row_made = rw first-is (sym made-is)
+
+    pub list-made : list_after r n list ≡ with_entries (month_starts e 0 (n + 1)) list
+    list-made =
+        rw first-is
+        (list-grown (the_row e 0 1) n list made-is
+        ∙ ap (with_entries_from list 0) (sym (from-epoch e n))
+        ∙ put_all (month_starts e 0 (n + 1)) list fits)
+
+    -- ON SUCH A ROW the month of a covered day is the day's own
+    pub month-made : {s : Months} → Ok s ≡ extended_by r n (capacity list) → (d : ℕ) → d ≤ n → month_at s (list_after r n list) e d ≡ result_map_both (λ (m : Option MonthStart). m) Refused (month_on e d)
+    month-made {s} x d k =
+        let i : s ≡ the_row e (length (month_starts e 0 (n + 1))) (n + 1) = cc row_made in
+        rw (i, list-made) (of-entries d k)

@@ -15,9 +15,11 @@ use Rattle.days.specs.Days.{last_day, days_from}
 use Rattle.entries.specs.Entries.{capacity, entry_day, with_entries}
 use Rattle.entries.proofs.Laws.{with-entries-length, entries-read}
 use Rattle.entries.proofs.Lists.{listed, has-at, days-join, filtered-join}
-use Rattle.lunar_months.specs.declared.MonthAt.TheVariants.{Start, NoStart, Refused}
-use Rattle.lunar_months.specs.declared.MonthNumbers.{MonthNumbers}
-use Rattle.lunar_months.specs.MonthStarts.{starts_month, month_starts, latest_or, latest_of, month_on, month_numbers}
+use Rattle.std.specs.Prelude.{Option, None, Ok, Err}
+use Rattle.std.specs.Option.{IfSome}
+use Rattle.days.specs.declared.refusal.Refusal.TheVariants.{OutOfRange, BadEdition}
+use Rattle.lunar_months.specs.declared.MonthStart.{MonthStart}
+use Rattle.lunar_months.specs.MonthStarts.{starts_month, month_starts, latest_or, start_on, latest_of, month_on}
 use Rattle.lunar_months.specs.Rows.{last_entry}
 use Rattle.panchanga.specs.TrueLongitudes.{is_edition}
 use Rattle.lunar_months.proofs.Finding.{starts-few}
@@ -39,14 +41,14 @@ unfolding latest_or
 latest-end x [] = refl
 latest-end x (y ∷ ys) = latest-end y ys
 
-latest-at : (xs : List ℕ) → 0 < length xs → latest_of xs ≡ Start (get_or xs (length xs - 1) 0) (length xs)
+latest-at : (xs : List ℕ) → 0 < length xs → latest_of xs ≡ start_on (get_or xs (length xs - 1) 0) (length xs)
 unfolding latest_of
 latest-at [] h = absurd (omega arith)
 latest-at (x ∷ xs) h =
     let last : length xs ≡ length (x ∷ xs) - 1 = omega arith in
-    ap (λ (d : ℕ). Start d (length (x ∷ xs))) (latest-end x xs ∙ ap (λ (i : ℕ). get_or (x ∷ xs) i 0) last)
+    ap (λ (d : ℕ). start_on d (length (x ∷ xs))) (latest-end x xs ∙ ap (λ (i : ℕ). get_or (x ∷ xs) i 0) last)
 
-latest-empty : (xs : List ℕ) → length xs ≤ 0 → latest_of xs ≡ NoStart
+latest-empty : (xs : List ℕ) → length xs ≤ 0 → latest_of xs ≡ None
 unfolding latest_of
 latest-empty [] h = refl
 latest-empty (x ∷ xs) h = absurd (omega arith)
@@ -70,7 +72,7 @@ module _
   in-front some =
       let i : length xs - 1 < length xs = omega arith in
       let day : entry_day made (length xs - 1) ≡ get_or xs (length xs - 1) 0 = read (length xs - 1) (omega arith) ∙ get_or-append xs ys 0 (length xs - 1) i in
-      entry_here made d (length xs) some (omega (arith, day, early (length xs - 1) i)) ∙ ap (λ (s : ℕ). Start s (length xs)) day ∙ sym (latest-at xs some)
+      entry_here made d (length xs) some (omega (arith, day, early (length xs - 1) i)) ∙ ap (λ (s : ℕ). start_on s (length xs)) day ∙ sym (latest-at xs some)
 
   cut-there : last_entry made d (length xs + length ys) ≡ latest_of xs
   cut-there = passed (length ys) (omega arith) ∙ go (dec_le 1 (length xs))
@@ -102,42 +104,40 @@ module _ (e c : ℕ) (list : List ℕ) (low : c ≤ last_day + 1) (fits : length
 
 -- what is told of a day's month: the day is one, the latest start is not after it, and there are no more starts than
 -- days behind day 0
-pub record Told (n : ℕ) (month : MonthNumbers) : Type 0 where
+pub record Told (n : ℕ) (month : Option MonthStart) : Type 0 where
   pub day : n ≤ last_day
-  pub start : month.start ≤ n
-  pub number : month.number ≤ n
+  pub start : IfSome month (λ s. s.day ≤ n)
+  pub number : IfSome month (λ s. s.number ≤ n)
 
-latest-low : (b : ℕ) (xs : List ℕ) → ((i : ℕ) → i < length xs → get_or xs i 0 ≤ b) → (month_numbers (latest_of xs)).start ≤ b
-unfolding latest_of month_numbers
-latest-low b [] h = omega arith
+latest-low : (b : ℕ) (xs : List ℕ) → ((i : ℕ) → i < length xs → get_or xs i 0 ≤ b) → IfSome (latest_of xs) (λ s. s.day ≤ b)
+unfolding latest_of
+latest-low b [] h = tt
 latest-low b (x ∷ xs) h = omega (arith, latest-end x xs, h (length xs) (omega arith))
 
-latest-count : (xs : List ℕ) → (month_numbers (latest_of xs)).number ≡ length xs
-unfolding latest_of month_numbers
-latest-count [] = refl
-latest-count (x ∷ xs) = refl
+latest-count : (b : ℕ) (xs : List ℕ) → length xs ≤ b → IfSome (latest_of xs) (λ s. s.number ≤ b)
+unfolding latest_of
+latest-count b [] h = tt
+latest-count b (x ∷ xs) h = h
 
-refused-told : (r : ℕ) → (month_numbers (Refused r 0)).refusal ≡ 0 → r ≡ 0
-unfolding month_numbers
-refused-told r h = h
-
-pub month-told : (e n : ℕ) → (month_numbers (month_on e n)).refusal ≡ 0 → Told n (month_numbers (month_on e n))
+pub month-told : (e n : ℕ) {month : Option MonthStart} → Ok month ≡ month_on e n → Told n month
 unfolding month_on
-month-told e n h = go (is_edition e) (leb n last_day) refl h
+month-told e n {month} h = go (is_edition e) (leb n last_day) refl h
   where
-    few : (month_numbers (latest_of (month_starts e 0 (n + 1)))).number ≤ n
-    few = omega (arith, latest-count (month_starts e 0 (n + 1)), ap length (from-epoch e n), starts-few e 1 n)
+    starts : List ℕ
+    starts = month_starts e 0 (n + 1)
 
-    go :
-        (t u : Bool) →
-        leb n last_day ≡ u →
-        (month_numbers (cond t (cond u (latest_of (month_starts e 0 (n + 1))) (Refused 2 0)) (Refused 14 0))).refusal ≡ 0 →
-        Told n (month_numbers (cond t (cond u (latest_of (month_starts e 0 (n + 1))) (Refused 2 0)) (Refused 14 0)))
-    go true true eu k =
+    few : length starts ≤ n
+    few = omega (arith, ap length (from-epoch e n), starts-few e 1 n)
+
+    told : n ≤ last_day → Told n (latest_of starts)
+    told d =
         record {
-          day = leb-true _ _ eu;
-          start = latest-low n (month_starts e 0 (n + 1)) (λ i l. omega (arith, (start-day e 0 (n + 1) i l).1));
-          number = few;
+          day = d;
+          start = latest-low n starts (λ i l. omega (arith, (start-day e 0 (n + 1) i l).1));
+          number = latest-count n starts few;
         }
-    go true false eu k = absurd (omega (arith, refused-told 2 k))
-    go false u eu k = absurd (omega (arith, refused-told 14 k))
+
+    go : (t u : Bool) → leb n last_day ≡ u → Ok month ≡ cond t (cond u (Ok (latest_of starts)) (Err OutOfRange)) (Err BadEdition) → Told n month
+    go true true eu k = let m : month ≡ latest_of starts = cc in rw m (told (leb-true _ _ eu))
+    go true false eu k = absurd cc
+    go false u eu k = absurd cc

@@ -9,8 +9,9 @@ use Rattle.integers.specs.Integers.{floor_over, reduced}
 use Rattle.longitudes.specs.Longitudes.{difference_of, table, mean_longitude, longitude_at}
 use Rattle.panchanga.specs.TrueLongitudes.{bhuja, equation, signed, corrected, true_longitude, is_edition, true_moon}
 use Rattle.panchanga.specs.OnDays.{true_sun_at, true_moon_at, tithi_at}
-use Rattle.lunar_months.specs.declared.MonthAt.TheVariants.{Start, NoStart, Refused}
-use Rattle.lunar_months.specs.MonthStarts.{starts_month, month_starts, latest_or, latest_of, month_on}
+use Rattle.std.specs.Prelude.{None, Ok, Err}
+use Rattle.days.specs.declared.refusal.Refusal.TheVariants.{BadEdition}
+use Rattle.lunar_months.specs.MonthStarts.{starts_month, month_starts, latest_or, start_on, latest_of, month_on}
 
 pub first-year :
     month_starts 1 0 366 ∷ month_starts 2 0 366 ∷ []
@@ -26,6 +27,6 @@ editions-differ = refl
 -- the months of days of the first year, and a refusal
 pub first-months :
     month_on 1 0 ∷ month_on 2 0 ∷ month_on 1 1 ∷ month_on 2 58 ∷ month_on 1 59 ∷ month_on 3 59 ∷ []
-    ≡ NoStart ∷ NoStart ∷ Start 1 1 ∷ Start 30 2 ∷ Start 59 3 ∷ Refused 14 0 ∷ []
+    ≡ Ok None ∷ Ok None ∷ Ok (start_on 1 1) ∷ Ok (start_on 30 2) ∷ Ok (start_on 59 3) ∷ Err BadEdition ∷ []
 unfolding month_on latest_of latest_or is_edition month_starts filtered days_from starts_month tithi_at true_sun_at true_moon_at true_moon true_longitude corrected signed equation bhuja difference_of longitude_at mean_longitude table floor_over reduced
 first-months = refl

@@ -1,3 +1,4 @@
 pub mod MonthStarts
 pub mod Rows
+pub mod Numbers
 pub mod Parts

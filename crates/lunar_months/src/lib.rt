@@ -6,11 +6,14 @@ ghost use Rattle.days.specs.Days.{last_day, in_range};
 ghost use Rattle.entries.specs.Entries.{capacity, entry_day, with_entries_from};
 ghost use Rattle.longitudes.specs.Longitudes.{longitude_at};
 ghost use Rattle.panchanga.specs.TrueLongitudes.{is_edition};
-ghost use Rattle.lunar_months.specs.MonthStarts.{tithi_on, month_starts, month_on, month_numbers};
-ghost use Rattle.lunar_months.specs.Rows.{the_row, no_row, new_row, is_covered, extended_by, list_after, last_entry, month_at};
-ghost use Rattle.lunar_months.specs.Parts.{extension_refusal, question_refusal, before_extension, Reckonable, Counted};
+ghost use Rattle.lunar_months.specs.MonthStarts.{tithi_on, month_starts, month_on};
+ghost use Rattle.lunar_months.specs.Numbers.{why_not, row_numbers, month_numbers};
+ghost use Rattle.lunar_months.specs.declared.MonthRefusal.TheVariants.{Refused};
+ghost use Rattle.lunar_months.specs.Rows.{the_row, new_row, is_covered, extended_by, list_after, last_entry, month_at};
+ghost use Rattle.lunar_months.specs.Parts.{check_extension, check_question, before_extension, Reckonable, Counted};
 
-use days::{Day, refusal};
+use days::Day;
+use days::refusal::Refusal;
 use entries::ENTRY_BYTES;
 use longitudes::Body;
 use panchanga::is_edition;
@@ -27,23 +30,50 @@ pub struct Months {
     pub covered: u32,
 }
 
-// A refusal has zeros; with 7 `starts` tells how many entries would do.
+// The latest month start at or before a day, and how many there were up to it.
 #[derive(Clone, Copy)]
-pub struct MonthsAnswer {
+pub struct MonthStart {
+    pub day: u32,
+    pub number: usize,
+}
+
+// Why a row is not extended, or not asked: the call is refused, or the list has too few entries, with the number that
+// would do.
+#[derive(Clone, Copy)]
+pub enum MonthRefusal {
+    Refused(Refusal),
+    TooShort(usize),
+}
+
+impl MonthRefusal {
+    // Too few entries are a refusal too.
+    pub fn refusal(self) -> Refusal
+        ensures { result ≡ why_not self }
+    {
+        match self {
+            MonthRefusal::Refused(refusal) => refusal,
+            MonthRefusal::TooShort(_) => Refusal::ListTooShort,
+        }
+    }
+}
+
+impl From<Refusal> for MonthRefusal {
+    ghost from_gives = { λ r e. e ≡ Refused r };
+
+    fn from(refusal: Refusal) -> MonthRefusal {
+        MonthRefusal::Refused(refusal)
+    }
+}
+
+// An answer in numbers: a row, or a month.
+// Kept: the calls for C (`graha_months_extended_turns`, `graha_month_result` and their like) hand out each of them.
+#[derive(Clone, Copy)]
+pub struct RowNumbers {
     pub refusal: u32,
-    pub months: Months,
+    pub starts: usize,
+    pub covered: u32,
 }
 
-// The month of a day: the latest month start at or before it and how many there were up to it; no start so far; or a
-// refusal, with 7 the number of entries that would do, else 0.
-#[derive(Clone, Copy)]
-pub enum MonthAt {
-    Start { day: u32, number: usize },
-    NoStart,
-    Refused { refusal: u32, needed: usize },
-}
-
-// An answer in numbers.
 #[derive(Clone, Copy)]
 pub struct MonthNumbers {
     pub refusal: u32,
@@ -66,28 +96,56 @@ struct Added {
     latest: u32,
 }
 
-impl MonthAt {
-    // With no start, or a refusal, the start's day is 0.
-    pub fn numbers(self) -> MonthNumbers
-        ensures { result ≡ month_numbers self }
-    {
-        match self {
-            MonthAt::Start { day, number } => MonthNumbers {
-                refusal: refusal::NONE,
-                start: day,
-                number,
-            },
-            MonthAt::NoStart => MonthNumbers {
-                refusal: refusal::NONE,
-                start: 0,
-                number: 0,
-            },
-            MonthAt::Refused { refusal, needed } => MonthNumbers {
-                refusal,
-                start: 0,
-                number: needed,
-            },
-        }
+// A refusal has zeros; with 7 `starts` tells how many entries would do.
+#[tactic(auto, unfolding(crate::specs::Numbers::row_numbers))]
+pub fn row_numbers(row: Result<Months, MonthRefusal>) -> RowNumbers
+    ensures { result ≡ row_numbers row }
+{
+    match row {
+        Ok(row) => RowNumbers {
+            refusal: 0,
+            starts: row.starts,
+            covered: row.covered,
+        },
+        Err(MonthRefusal::Refused(refusal)) => RowNumbers {
+            refusal: refusal.number(),
+            starts: 0,
+            covered: 0,
+        },
+        Err(MonthRefusal::TooShort(needed)) => RowNumbers {
+            refusal: Refusal::ListTooShort.number(),
+            starts: needed,
+            covered: 0,
+        },
+    }
+}
+
+// With no start, or a refusal, the start's day is 0; with 7 the number tells how many entries would do.
+#[tactic(auto, unfolding(crate::specs::Numbers::month_numbers))]
+pub fn month_numbers(month: Result<Option<MonthStart>, MonthRefusal>) -> MonthNumbers
+    ensures { result ≡ month_numbers month }
+{
+    match month {
+        Ok(Some(MonthStart { day, number })) => MonthNumbers {
+            refusal: 0,
+            start: day,
+            number,
+        },
+        Ok(None) => MonthNumbers {
+            refusal: 0,
+            start: 0,
+            number: 0,
+        },
+        Err(MonthRefusal::Refused(refusal)) => MonthNumbers {
+            refusal: refusal.number(),
+            start: 0,
+            number: 0,
+        },
+        Err(MonthRefusal::TooShort(needed)) => MonthNumbers {
+            refusal: Refusal::ListTooShort.number(),
+            start: 0,
+            number: needed,
+        },
     }
 }
 
@@ -97,9 +155,9 @@ fn means_on(day: Day) -> Means
     requires { in_range day ≡ true }
     ensures { result ≡ record { sun = longitude_at 0 day; moon = longitude_at 1 day; apogee = longitude_at 2 day } }
 {
-    let sun = longitudes::mean_longitude(Body::Sun, day);
-    let moon = longitudes::mean_longitude(Body::Moon, day);
-    let apogee = longitudes::mean_longitude(Body::MoonApogee, day);
+    let sun = longitudes::mean_longitude(Body::Sun, day).unwrap();
+    let moon = longitudes::mean_longitude(Body::Moon, day).unwrap();
+    let apogee = longitudes::mean_longitude(Body::MoonApogee, day).unwrap();
     Means {
         sun: sun.seconds,
         moon: moon.seconds,
@@ -113,7 +171,7 @@ fn tithi_on(edition: u32, day: u32) -> u32
     ensures { result ≡ tithi_on edition day }
 {
     let means = means_on(Day::at(day));
-    panchanga::tithi_of_means(edition, means.sun, means.moon, means.apogee).number
+    panchanga::tithi_of_means(edition, means.sun, means.moon, means.apogee).unwrap()
 }
 
 // Finds the month starts among the days behind the covered ones and puts them into the list from an entry on, as many
@@ -127,8 +185,7 @@ fn put_starts(edition: u32, covered: u32, days: u32, first: usize, list: &mut [u
     let mut before = tithi_on(edition, covered - 1);
     let mut count: u32 = 0;
     let mut latest: u32 = 0;
-    let mut day = covered;
-    while day < end {
+    for day in covered..end {
         let tithi = tithi_on(edition, day);
         if tithi < before {
             entries::put_entry(list, first + count as usize, day);
@@ -136,7 +193,6 @@ fn put_starts(edition: u32, covered: u32, days: u32, first: usize, list: &mut [u
             latest = day;
         }
         before = tithi;
-        day += 1;
     }
     Added { count, latest }
 }
@@ -163,9 +219,10 @@ fn start_at(list: &[u8], index: usize) -> u32
     entries::day_of([a, b, c, d])
 }
 
-// The last of so many entries that is not after the day, from the end on, two at a turn: with one, a processor may wait
-// for the count longer than for the entry.
-fn last_entry(list: &[u8], starts: usize, day: u32) -> MonthAt
+// The last of so many entries that is not after the day, from the end on, two at a turn.
+// Kept: with one at a turn, as a `for` would have it, the look took up to 1.5 of plain C's time, with two 1.0
+// (docs/performance.md): a processor may wait for the count longer than for the entry.
+fn last_entry(list: &[u8], starts: usize, day: u32) -> Option<MonthStart>
     requires { starts ≤ capacity list.now }
     ensures { result ≡ last_entry list.now day starts }
 {
@@ -173,221 +230,178 @@ fn last_entry(list: &[u8], starts: usize, day: u32) -> MonthAt
     while 1 < number {
         let last = start_at(list, number - 1);
         if last <= day {
-            return MonthAt::Start { day: last, number };
+            return Some(MonthStart { day: last, number });
         }
         let before = start_at(list, number - 2);
         if before <= day {
-            return MonthAt::Start {
+            return Some(MonthStart {
                 day: before,
                 number: number - 1,
-            };
+            });
         }
         number -= 2;
     }
     if number == 0 {
-        return MonthAt::NoStart;
+        return None;
     }
     let first = start_at(list, 0);
     if first <= day {
-        return MonthAt::Start {
+        return Some(MonthStart {
             day: first,
             number: 1,
-        };
+        });
     }
-    MonthAt::NoStart
+    None
 }
 
-fn refused(refusal: u32, needed: usize) -> MonthsAnswer
-    ensures { result ≡ no_row refusal needed }
-{
-    MonthsAnswer {
-        refusal,
-        months: Months {
-            edition: 0,
-            starts: needed,
-            covered: 0,
-        },
-    }
-}
-
-// The month of a day, found without a row.
-pub fn month_on(edition: u32, day: u32) -> MonthAt
+// The month of a day, found without a row; or that none has started.
+pub fn month_on(edition: u32, day: u32) -> Result<Option<MonthStart>, Refusal>
     ensures { result ≡ month_on edition day }
 {
     if !is_edition(edition) {
-        return MonthAt::Refused {
-            refusal: refusal::BAD_EDITION,
-            needed: 0,
-        };
+        return Err(Refusal::BadEdition);
     }
     if Day::LAST < day {
-        return MonthAt::Refused {
-            refusal: refusal::OUT_OF_RANGE,
-            needed: 0,
-        };
+        return Err(Refusal::OutOfRange);
     }
     let found = find_starts(edition, 1, day);
     if found.count == 0 {
-        return MonthAt::NoStart;
+        return Ok(None);
     }
-    MonthAt::Start {
+    Ok(Some(MonthStart {
         day: found.latest,
         number: found.count as usize,
-    }
+    }))
 }
 
 // A row covers day 0 at least, and no more days than there are.
+#[tactic(auto, unfolding(crate::specs::Rows::is_covered))]
 fn is_covered(covered: u32) -> bool
     ensures { result ≡ is_covered covered }
 {
-    if covered == 0 {
-        return false;
-    }
-    covered <= DAYS
+    1 <= covered && covered <= DAYS
 }
 
-// Why a row cannot be extended by so many days, or 0.
-fn extension_refusal(row: Months, days: u32) -> u32
-    ensures { result ≡ extension_refusal row days }
+// Refuses to extend a row by so many days.
+fn check_extension(row: Months, days: u32) -> Result<(), Refusal>
+    ensures { result ≡ check_extension row days }
 {
     if !is_edition(row.edition) {
-        return refusal::BAD_EDITION;
+        return Err(Refusal::BadEdition);
     }
     if !is_covered(row.covered) {
-        return refusal::OUT_OF_RANGE;
+        return Err(Refusal::OutOfRange);
     }
     if DAYS - row.covered < days {
-        refusal::OUT_OF_RANGE
+        Err(Refusal::OutOfRange)
     } else {
-        refusal::NONE
+        Ok(())
     }
 }
 
-// Why a row cannot be asked for the month of a day, or 0.
-fn question_refusal(row: Months, edition: u32, day: u32) -> u32
-    ensures { result ≡ question_refusal row edition day }
+// Refuses to ask a row for the month of a day.
+fn check_question(row: Months, edition: u32, day: u32) -> Result<(), Refusal>
+    ensures { result ≡ check_question row edition day }
 {
     if !is_edition(edition) {
-        return refusal::BAD_EDITION;
+        return Err(Refusal::BadEdition);
     }
     if edition != row.edition {
-        return refusal::BAD_EDITION;
+        return Err(Refusal::BadEdition);
     }
     if !is_covered(row.covered) {
-        return refusal::OUT_OF_RANGE;
+        return Err(Refusal::OutOfRange);
     }
     if day < row.covered {
-        refusal::NONE
+        Ok(())
     } else {
-        refusal::OUT_OF_RANGE
+        Err(Refusal::OutOfRange)
     }
 }
 
 impl Months {
     // A row that covers day 0.
-    pub fn new(edition: u32) -> MonthsAnswer
+    pub fn new(edition: u32) -> Result<Months, Refusal>
         ensures { result ≡ new_row edition }
     {
-        if !is_edition(edition) {
-            return refused(refusal::BAD_EDITION, 0);
-        }
-        MonthsAnswer {
-            refusal: refusal::NONE,
-            months: Months {
+        if is_edition(edition) {
+            Ok(Months {
                 edition,
                 starts: 0,
                 covered: 1,
-            },
+            })
+        } else {
+            Err(Refusal::BadEdition)
         }
     }
 
-    // What refuses an extension before its month starts are known: 14, 2, or 7 for those that the row says. Else the
-    // row as it is.
-    fn before_extension(self, days: u32, capacity: usize) -> MonthsAnswer
+    // What refuses an extension before its month starts are known: 14, 2, or 7 for those that the row says.
+    fn before_extension(self, days: u32, capacity: usize) -> Result<(), MonthRefusal>
         ensures { result ≡ before_extension self days capacity }
     {
-        let refusal = extension_refusal(self, days);
-        if refusal != refusal::NONE {
-            return refused(refusal, 0);
-        }
+        check_extension(self, days)?;
         if capacity < self.starts {
-            return refused(refusal::LIST_TOO_SHORT, self.starts);
+            return Err(MonthRefusal::TooShort(self.starts));
         }
-        MonthsAnswer {
-            refusal: refusal::NONE,
-            months: self,
-        }
+        Ok(())
     }
 
     // The row with so many days more, on which so many months start.
-    fn grown(self, days: u32, count: u32) -> MonthsAnswer
+    fn grown(self, days: u32, count: u32) -> Months
         requires { (self.covered + days ≤ last_day + 1) × (self.starts + count < 18446744073709551616) }
         ensures { result ≡ the_row self.edition (self.starts + count) (self.covered + days) }
     {
         let starts = self.starts + count as usize;
         let covered = self.covered + days;
-        MonthsAnswer {
-            refusal: refusal::NONE,
-            months: Months {
-                edition: self.edition,
-                starts,
-                covered,
-            },
+        Months {
+            edition: self.edition,
+            starts,
+            covered,
         }
     }
 
     // The row with so many days more, for a list of so many bytes.
-    pub fn extended(self, days: u32, bytes: usize) -> MonthsAnswer
+    pub fn extended(self, days: u32, bytes: usize) -> Result<Months, MonthRefusal>
         ensures { result ≡ extended_by self days (bytes / 4) }
     {
         let capacity = bytes / ENTRY_BYTES;
-        let before = self.before_extension(days, capacity);
-        if before.refusal != refusal::NONE {
-            return before;
-        }
+        self.before_extension(days, capacity)?;
         let found = find_starts(self.edition, self.covered, days);
         let after = self.grown(days, found.count);
-        if capacity < after.months.starts {
-            return refused(refusal::LIST_TOO_SHORT, after.months.starts);
+        if capacity < after.starts {
+            return Err(MonthRefusal::TooShort(after.starts));
         }
-        after
+        Ok(after)
     }
 
     // The row with so many days more; its new month starts stand in the list behind its own. Where the list has an
     // entry for each of the days they fit; else they are counted first.
-    pub fn extend(self, days: u32, list: &mut [u8]) -> MonthsAnswer
+    pub fn extend(self, days: u32, list: &mut [u8]) -> Result<Months, MonthRefusal>
         ensures value { result ≡ extended_by self days (capacity list.old) }
         ensures list_after { list.new ≡ list_after self days list.old }
     {
         let capacity = list.len() / ENTRY_BYTES;
-        let before = self.before_extension(days, capacity);
-        if before.refusal != refusal::NONE {
-            return before;
-        }
+        self.before_extension(days, capacity)?;
         if capacity - self.starts < days as usize {
-            let counted = self.extended(days, list.len());
-            if counted.refusal != refusal::NONE {
-                return counted;
-            }
+            self.extended(days, list.len())?;
         }
         let found = put_starts(self.edition, self.covered, days, self.starts, list);
-        self.grown(days, found.count)
+        Ok(self.grown(days, found.count))
     }
 
     // The month of a day that the row covers, in its edition.
-    pub fn month_at(self, list: &[u8], edition: u32, day: u32) -> MonthAt
+    pub fn month_at(
+        self,
+        list: &[u8],
+        edition: u32,
+        day: u32,
+    ) -> Result<Option<MonthStart>, MonthRefusal>
         ensures { result ≡ month_at self list.now edition day }
     {
-        let refusal = question_refusal(self, edition, day);
-        if refusal != refusal::NONE {
-            return MonthAt::Refused { refusal, needed: 0 };
-        }
+        check_question(self, edition, day)?;
         if list.len() / ENTRY_BYTES < self.starts {
-            return MonthAt::Refused {
-                refusal: refusal::LIST_TOO_SHORT,
-                needed: self.starts,
-            };
+            return Err(MonthRefusal::TooShort(self.starts));
         }
-        last_entry(list, self.starts, day)
+        Ok(last_entry(list, self.starts, day))
     }
 }

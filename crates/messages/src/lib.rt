@@ -10,7 +10,10 @@ ghost use Rattle.messages.specs.Messages.{refusal_text, condition_takes, arcs_ta
 use days::refusal;
 use text::Line;
 
-// What a refusal says, put behind a line.
+// What a refusal says, by its number, put behind a line.
+// Kept: `messages::with_refusal` and `page_fault` take any number, and enums in place of them would ask more of
+// callers.
+#[tactic(auto, unfolding(crate::specs::Messages::refusal_text))]
 pub fn with_refusal(line: Line, refusal: u32) -> Line
     ensures { result ≡ with_bytes line (refusal_text refusal) }
 {
@@ -23,6 +26,7 @@ pub fn with_refusal(line: Line, refusal: u32) -> Line
     }
 }
 
+#[tactic(auto, unfolding(crate::specs::Messages::condition_takes))]
 fn with_condition(line: Line, keyword: usize) -> Line
     ensures { result ≡ with_bytes line (condition_takes keyword) }
 {
@@ -63,6 +67,7 @@ fn with_true_place(line: Line, place: usize) -> Line
 }
 
 // Which word it is that has other values, and what it takes.
+#[tactic(auto, unfolding(crate::specs::Messages::takes_text))]
 fn with_takes(line: Line, keyword: usize) -> Line
     ensures { result ≡ with_bytes line (takes_text keyword) }
 {
@@ -81,6 +86,7 @@ fn with_takes(line: Line, keyword: usize) -> Line
     with_true_place(line, keyword - page::TRUE_ARCS)
 }
 
+#[tactic(auto, unfolding(crate::specs::Messages::values_text))]
 fn with_values(line: Line, refusal: u32, reason: u32) -> Line
     ensures { result ≡ with_bytes line (values_text refusal reason) }
 {
@@ -90,6 +96,7 @@ fn with_values(line: Line, refusal: u32, reason: u32) -> Line
     with_refusal(line, refusal)
 }
 
+#[tactic(auto, unfolding(crate::specs::Messages::fault_text))]
 fn with_reason(line: Line, refusal: u32, reason: u32) -> Line
     ensures { result ≡ with_bytes line (fault_text refusal reason) }
 {
@@ -102,7 +109,7 @@ fn with_reason(line: Line, refusal: u32, reason: u32) -> Line
     }
 }
 
-// Which line of a page is at fault, and why: the refusal and the reason are those of `page::PageRead`.
+// Which line of a page is at fault, and why: the numbers of a `page::Fault`.
 pub fn page_fault(line: u32, refusal: u32, reason: u32) -> Line
     ensures { Holds result (fault_line line refusal reason) }
 {

@@ -1,55 +1,51 @@
 // The almanac desk's program: reads a first day and prints thirty days' records.
 #![tactic(auto)]
 
+ghost use Rattle.std.specs.Prelude.{◌≡◌};
 ghost use Rattle.output.specs.Output.{AllWritten};
-ghost use Rattle.text.specs.Sheets.{Between};
-ghost use Rattle.month_sheet.specs.MonthSheets.{month_lines_for};
+ghost use Rattle.month_sheet.specs.MonthSheets.{month_lines, month_lines_for};
 
-use output::Written;
-use text::PIECE;
+use days::refusal::Refusal;
+use output::{NotWritten, Sheet};
+use records::{DayRecord, MONTH};
+use text::Line;
 
-// The only way to print. By what it requires the bytes are the sheet's from one line to before another.
-fn print_between(input: &[u8], from: usize, to: usize, bytes: &[u8]) -> bool
-    requires { Between (month_lines_for input.now) from to bytes.now }
-{
-    output::print_bytes(bytes)
+// The sheet of the month that was read.
+#[derive(Clone, Copy)]
+struct MonthSheet {
+    month: Result<[DayRecord; MONTH], Refusal>,
 }
 
-// As many lines as fit whole are put into the buffer and printed at once.
-fn print_month(input: &[u8]) -> Written
+impl Sheet for MonthSheet {
+    ghost lines = { λ s. month_lines s.month };
+
+    fn line_count(&self) -> usize {
+        month_sheet::line_count(self.month)
+    }
+
+    fn line(&self, index: usize) -> Line {
+        month_sheet::line(self.month, index)
+    }
+}
+
+// The only way to print. By what it requires the sheet is the input's.
+fn print_lines(input: &[u8], sheet: &MonthSheet) -> Result<usize, NotWritten>
+    requires { month_lines sheet.now.month ≡ month_lines_for input.now }
+    ensures { AllWritten (month_lines_for input.now) result }
+{
+    output::print_sheet(sheet)
+}
+
+fn print_month(input: &[u8]) -> Result<usize, NotWritten>
     ensures { AllWritten (month_lines_for input.now) result }
 {
     let month = month_sheet::read_month(input);
-    let lines = month_sheet::line_count(month);
-    let mut buffer = [0u8; PIECE];
-    let mut from: usize = 0;
-    let mut bytes: usize = 0;
-    let mut index: usize = 0;
-    while index < lines {
-        let line = month_sheet::line(month, index);
-        let len = line.len;
-        if PIECE - bytes < len {
-            if !print_between(input, from, index, &buffer[..bytes]) {
-                return Written {
-                    lines: from,
-                    whole: false,
-                };
-            }
-            from = index;
-            bytes = 0;
-        }
-        line.put(&mut buffer, bytes);
-        bytes += len;
-        index += 1;
-    }
-    let whole = print_between(input, from, lines, &buffer[..bytes]);
-    Written { lines, whole }
+    print_lines(input, &MonthSheet { month })
 }
 
 // A good input has at most seven bytes: the eighth shows a longer one.
 fn main(rt: HostRuntime) {
     let mut stdin = rt.stdin();
     let mut buffer = [0u8; 8];
-    let n = input::read_input(&mut stdin, &mut buffer);
-    print_month(&buffer[..n]);
+    let _ = print_month(input::read_bytes(&mut stdin, &mut buffer));
 }

@@ -1,31 +1,30 @@
 -- What is printed for an input fits: its month's records are of days, whose numbers have few digits. So none of its
 -- lines is refused. Assumes nothing.
-use mathlib.Core.Bool.{Bool, true, false}
 use mathlib.Core.List.{List}
-use mathlib.Core.Path.{◌≡◌, refl, sym, ap, ◌∙◌}
+use mathlib.Core.Path.{◌≡◌, sym, ap, ◌∙◌}
 use Prim.Native.Nat.{ℕ, suc, ◌+◌, ◌-◌, ◌%◌, ◌≤◌, ◌<◌}
 use native.Mathlib.Omega.{arith}
-use lib.Dec.{eqb}
 use lib.ListN.{length, get_or, length-append}
-use borrow.Author.Tests.{eqb-true, eqb-false}
 use Rattle.days.specs.declared.Day.{Day}
-use Rattle.days.specs.Refusals.{accepted}
+use Rattle.std.specs.Prelude.{Result, Ok, Err}
+use Rattle.days.specs.declared.refusal.Refusal.{Refusal}
+use Rattle.days.specs.Refusals.{number_or_zero}
 use Rattle.days.specs.Days.{last_day, pair_at}
 use Rattle.longitudes.specs.Longitudes.{table, longitude_at, longitudes_at}
 use Rattle.longitudes.proofs.Table.{longitude-small}
 use Rattle.panchanga.specs.TrueLongitudes.{first_edition}
 use Rattle.panchanga.specs.OnDays.{true_sun_at, true_moon_at, tithi_at, nakshatra_at, yoga_at, karana_at}
 use Rattle.panchanga.proofs.Bounds.{sun-small, moon-small, tithi-small, nakshatra-small, yoga-small, karana-range}
-use Rattle.records.specs.declared.Month.{Month}
-use Rattle.records.specs.Records.{record_on, month_of}
+use Rattle.records.specs.declared.DayRecord.{DayRecord}
+use Rattle.records.specs.Records.{record_on}
 use Rattle.records.proofs.Laws.{month-long, month-days, month-record}
 use Rattle.text.specs.Lines.{line_capacity, spaced}
 use Rattle.text.specs.Inputs.{day_input}
 use Rattle.text.specs.Sheets.{line_at}
 use Rattle.text.proofs.Holding.{whole-line}
 use Rattle.text.proofs.Printing.{digits-length}
-use Rattle.month_sheet.specs.MonthSheets.{record_bytes, record_line, month_lines, month_lines_for, month_read}
-use Rattle.month_sheet.proofs.Lines.{input-refused, input-accepted, behind, line-of-record}
+use Rattle.month_sheet.specs.MonthSheets.{record_bytes, record_line, month_lines, month_from, month_lines_for, month_read}
+use Rattle.month_sheet.proofs.Lines.{behind, line-of-record}
 
 -- a number below a circle takes a space and seven digits
 nine-fit : (d : Day) → length (spaced (longitudes_at d)) ≤ 72
@@ -60,23 +59,19 @@ record-fits e n h =
 
 -- each line of the month that an input asks for is its record's, whole
 pub lines-whole :
-    (s : List ℕ) (k : ℕ) →
-    (month_read s).refusal ≡ accepted →
+    (s : List ℕ) (k : ℕ) {m : List DayRecord} →
+    Ok m ≡ month_read s →
     k < 30 →
-    line_at (month_lines_for s) (suc k) ≡ record_bytes (record_on first_edition ((day_input s).number + k))
-unfolding record_line
-lines-whole s k r h = go (eqb (day_input s).refusal accepted) refl
+    line_at (month_lines_for s) (suc k) ≡ record_bytes (record_on first_edition (number_or_zero (day_input s) + k))
+unfolding record_line number_or_zero
+lines-whole s k {m} g h = go (day_input s) g
   where
-    month : (n : ℕ) → month_read s ≡ month_of first_edition n → line_at (month_lines_for s) (suc k) ≡ record_bytes (record_on first_edition (n + k))
-    month n e =
-        let good : (month_of first_edition n).refusal ≡ accepted = ap (λ (m : Month). m.refusal) (sym e) ∙ r in
+    go : (read : Result ℕ Refusal) → Ok m ≡ month_from read → line_at (month_lines (month_from read)) (suc k) ≡ record_bytes (record_on first_edition (number_or_zero read + k))
+    go (Err r) g = absurd cc
+    go (Ok n) g =
         let back : suc k - 1 ≡ k = omega arith in
-        ap (λ (m : Month). line_at (month_lines m) (suc k)) e
-        ∙ line-of-record (month_of first_edition n) (suc k) good (month-long first_edition n) (λ z. omega arith) (omega arith)
-        ∙ ap (λ (i : ℕ). record_line (get_or (month_of first_edition n).records i behind)) back
-        ∙ ap record_line (month-record first_edition n good k behind h)
-        ∙ whole-line _ (record-fits first_edition (n + k) (omega (arith, month-days first_edition n good)))
-
-    go : (t : Bool) → eqb (day_input s).refusal accepted ≡ t → line_at (month_lines_for s) (suc k) ≡ record_bytes (record_on first_edition ((day_input s).number + k))
-    go true e = month (day_input s).number (input-accepted s _ refl (eqb-true _ _ e))
-    go false e = absurd (eqb-false _ _ e (sym (ap (λ (m : Month). m.refusal) (input-refused s _ refl (eqb-false _ _ e))) ∙ r))
+        ap (λ (a : Result (List DayRecord) Refusal). line_at (month_lines a) (suc k)) (sym g)
+        ∙ line-of-record m (suc k) (month-long first_edition n g) (λ z. omega arith) (omega arith)
+        ∙ ap (λ (i : ℕ). record_line (get_or m i behind)) back
+        ∙ ap record_line (month-record first_edition n g k behind h)
+        ∙ whole-line _ (record-fits first_edition (n + k) (omega (arith, month-days first_edition n g)))

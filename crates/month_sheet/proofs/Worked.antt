@@ -14,7 +14,7 @@ use Rattle.text.specs.Lines.{spaced, refusal_line, whole_line}
 use Rattle.text.specs.Inputs.{is_line, input_read, day_input}
 use Rattle.text.specs.Sheets.{joined}
 use Rattle.integers.specs.Integers.{floor_over, reduced}
-use Rattle.month_sheet.specs.MonthSheets.{record_bytes, record_line, month_lines, month_read, month_printed}
+use Rattle.month_sheet.specs.MonthSheets.{record_bytes, record_line, month_printed}
 
 pub lines :
     record_line (record_on first_edition 33649)
@@ -34,5 +34,5 @@ pub refused :
     ∷ month_printed (ascii "401571\n")
     ∷ []
     ≡ ascii "refused 3\n" ∷ ascii "refused 3\n" ∷ ascii "refused 2\n" ∷ ascii "refused 2\n" ∷ []
-unfolding joined month_lines month_read month_of is_edition refusal_line day_input input_read is_line number_read is_number all_digits is_digit value_of with_digit digits_of digits_within
+unfolding joined month_of is_edition refusal_line day_input input_read is_line number_read is_number all_digits is_digit value_of with_digit digits_of digits_within
 refused = refl

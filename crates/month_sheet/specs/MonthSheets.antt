@@ -1,13 +1,12 @@
 -- The sheet of a month: from the bytes of the input to the bytes that are printed, a heading and a line for each of
 -- thirty records, or a refusal.
 -- Assumes nothing.
-use Rattle.std.specs.Prelude.{cond, List, [], ◌∷◌, ◌++◌, map, ℕ, eqb}
-use Rattle.days.specs.declared.NumberAnswer.{NumberAnswer}
-use Rattle.days.specs.Refusals.{accepted}
+use Rattle.std.specs.Prelude.{List, [], ◌∷◌, ◌++◌, map, ℕ, Result, Ok, Err}
+use Rattle.days.specs.declared.refusal.Refusal.{Refusal}
+use Rattle.days.specs.Refusals.{refusal_number}
 use Rattle.panchanga.specs.TrueLongitudes.{first_edition}
 use Rattle.records.specs.declared.DayRecord.{DayRecord}
-use Rattle.records.specs.declared.Month.{Month}
-use Rattle.records.specs.Records.{no_month, month_of}
+use Rattle.records.specs.Records.{month_of}
 use Rattle.text.specs.Ascii.{ascii}
 use Rattle.text.specs.Decimal.{digits_of}
 use Rattle.text.specs.Lines.{spaced, refusal_line, whole_line}
@@ -31,14 +30,17 @@ unfoldable pub record_line : DayRecord → List ℕ
 record_line r = whole_line (record_bytes r)
 
 -- the lines of a month's sheet: the heading and a line for each record, or the refusal
-unfoldable pub month_lines : Month → List (List ℕ)
-month_lines m = cond (eqb m.refusal accepted) (month_heading ∷ map record_line m.records) (refusal_line m.refusal ∷ [])
+abbrev pub month_lines : Result (List DayRecord) Refusal → List (List ℕ)
+month_lines (Ok records) = month_heading ∷ map record_line records
+month_lines (Err r) = refusal_line (refusal_number r) ∷ []
 
 -- the month that an input asks for, of the first edition; a refusal of the input is the month's
-unfoldable pub month_read : List ℕ → Month
-month_read bs =
-    let read : NumberAnswer = day_input bs in
-    cond (eqb read.refusal accepted) (month_of first_edition read.number) (no_month read.refusal)
+abbrev pub month_from : Result ℕ Refusal → Result (List DayRecord) Refusal
+month_from (Ok first) = month_of first_edition first
+month_from (Err r) = Err r
+
+abbrev pub month_read : List ℕ → Result (List DayRecord) Refusal
+month_read bs = month_from (day_input bs)
 
 -- the lines that are printed for an input
 abbrev pub month_lines_for : List ℕ → List (List ℕ)

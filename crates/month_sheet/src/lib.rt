@@ -6,22 +6,19 @@ ghost use Rattle.text.specs.Lines.{Holds};
 ghost use Rattle.text.specs.Sheets.{line_at};
 ghost use Rattle.month_sheet.specs.MonthSheets.{month_heading, record_line, month_lines, month_read};
 
-use days::refusal;
-use records::{DayRecord, MONTH, Month};
+use days::refusal::Refusal;
+use records::{DayRecord, MONTH};
 use text::Line;
 
 // The heading, and a line for each record.
 pub const LINES: usize = 1 + MONTH;
 
 // The month from an input's day on, in the first edition.
-pub fn read_month(input: &[u8]) -> Month
+pub fn read_month(input: &[u8]) -> Result<[DayRecord; MONTH], Refusal>
     ensures { result ≡ month_read input.now }
 {
-    let read = text::read_day(input);
-    if read.refusal != refusal::NONE {
-        return records::no_month(read.refusal);
-    }
-    records::month_from(panchanga::FIRST_EDITION, read.number)
+    let first = text::read_day(input)?;
+    records::month_from(panchanga::FIRST_EDITION, first)
 }
 
 pub fn heading() -> Line
@@ -54,31 +51,23 @@ pub fn record_line(filled: DayRecord) -> Line
 }
 
 // How many lines are printed for a month; a refusal is one.
-pub fn line_count(month: Month) -> usize
+pub fn line_count(month: Result<[DayRecord; MONTH], Refusal>) -> usize
     ensures { result ≡ length (month_lines month) }
 {
-    if month.refusal != refusal::NONE {
-        return 1;
+    match month {
+        Ok(_) => LINES,
+        Err(_) => 1,
     }
-    LINES
 }
 
 // One of the lines that are printed for a month, counted from 0; behind the last one nothing.
-pub fn line(month: Month, index: usize) -> Line
+pub fn line(month: Result<[DayRecord; MONTH], Refusal>, index: usize) -> Line
     ensures { Holds result (line_at (month_lines month) index) }
 {
-    if month.refusal != refusal::NONE {
-        if index == 0 {
-            return text::refusal_line(month.refusal);
-        }
-        return Line::empty();
+    match month {
+        Ok(_) if index == 0 => heading(),
+        Ok(records) if index < LINES => record_line(records[index - 1]),
+        Err(refusal) if index == 0 => text::refusal_line(refusal.number()),
+        _ => Line::empty(),
     }
-    if index == 0 {
-        return heading();
-    }
-    if LINES <= index {
-        return Line::empty();
-    }
-    let records = month.records;
-    record_line(records[index - 1])
 }

@@ -1,7 +1,7 @@
 -- Names differ: each name of a kind, in both spellings, is read as its own number. One test that computes over each
 -- list, and a law that turns it into the rule at every place.
 -- Assumes nothing.
-use mathlib.Core.Path.{◌≡◌, refl, ap, sym, ◌∙◌}
+use mathlib.Core.Path.{◌≡◌, refl, ap}
 use mathlib.Core.Bool.{Bool, true, false, cond, ◌&&◌, and-eq-true_iff}
 use mathlib.Core.List.{List, [], ◌∷◌}
 use Prim.Native.Nat.{ℕ, zero, suc, ◌+◌, ◌-◌, ◌≤◌, ◌<◌}
@@ -9,33 +9,37 @@ use native.Mathlib.Omega.{arith}
 use borrow.Author.Tests.{eqb-true, ltb-true, le-ltb}
 use lib.Dec.{eqb, ltb}
 use lib.ListN.{length}
-use Rattle.days.specs.declared.NumberAnswer.{NumberAnswer}
-use Rattle.days.specs.Days.{the_number, no_number}
-use Rattle.days.specs.Refusals.{bad_input}
+use Rattle.std.specs.Prelude.{Result, Ok, Err}
+use Rattle.days.specs.Refusals.{number_or_zero}
+use Rattle.days.specs.declared.refusal.Refusal.{Refusal}
+use Rattle.days.specs.declared.refusal.Refusal.TheVariants.{BadInput}
 use Rattle.words.specs.Words.{behind_mark, small_byte, small_from, same_bytes, place_in, name_at}
 use Rattle.names.specs.declared.Kind.{Kind}
 use Rattle.names.specs.declared.Kind.TheVariants.{Tithi, Nakshatra, Yoga, Karana, Sign, Month, Fortnight, Weekday}
 use Rattle.names.specs.Names.{plain_names, other_names, count_of, first_of, name_read, name_of}
 
 -- a word is read as this number
+abbrev is_number : ℕ → Result ℕ Refusal → Bool
+is_number n (Ok m) = eqb m n
+is_number n (Err _) = false
+
 unfoldable reads_as : Kind → ℕ → List ℕ → Bool
-reads_as k n w = eqb (name_read k w).refusal 0 && eqb (name_read k w).number n
+reads_as k n w = is_number n (name_read k w)
 
 -- each of some words is read as its number, the first as n
 unfoldable each_reads : Kind → ℕ → List (List ℕ) → Bool
 each_reads k n [] = true
 each_reads k n (w ∷ ws) = reads_as k n w && each_reads k (suc n) ws
 
-the_number_lem : (refusal number n : ℕ) → refusal ≡ 0 → number ≡ n → ◌≡◌ {A = NumberAnswer} (record { refusal = refusal; number = number }) (the_number n)
-the_number_lem refusal number n r e = rw (r, e)
-
-read_as : (k : Kind) (n : ℕ) (w : List ℕ) → reads_as k n w ≡ true → name_read k w ≡ the_number n
+read_as : (k : Kind) (n : ℕ) (w : List ℕ) → reads_as k n w ≡ true → name_read k w ≡ Ok n
 unfolding reads_as
-read_as k n w e =
-    let both = (and-eq-true_iff (eqb (name_read k w).refusal 0) (eqb (name_read k w).number n)).0 e in
-    the_number_lem (name_read k w).refusal (name_read k w).number n (eqb-true _ _ both.0) (eqb-true _ _ both.1)
+read_as k n w e = go (name_read k w) e
+  where
+    go : (read : Result ℕ Refusal) → is_number n read ≡ true → read ≡ Ok n
+    go (Ok m) e = ap Ok (eqb-true _ _ e)
+    go (Err _) e = absurd cc
 
-at_place : (k : Kind) (n : ℕ) (ws : List (List ℕ)) → each_reads k n ws ≡ true → (i : ℕ) → i < length ws → name_read k (name_at ws i) ≡ the_number (n + i)
+at_place : (k : Kind) (n : ℕ) (ws : List (List ℕ)) → each_reads k n ws ≡ true → (i : ℕ) → i < length ws → name_read k (name_at ws i) ≡ Ok (n + i)
 unfolding each_reads name_at
 at_place k n [] e i h = absurd (omega arith)
 at_place k n (w ∷ ws) e zero h =
@@ -97,30 +101,30 @@ name-at-place k i =
     rw (le-ltb (first_of k + i) (first_of k) (omega arith), back)
 
 -- what a word is read as is one of the kind's numbers, or 0
-pub number-few : (k : Kind) (w : List ℕ) → (name_read k w).number < first_of k + count_of k
-unfolding name_read
+pub number-few : (k : Kind) (w : List ℕ) → number_or_zero (name_read k w) < first_of k + count_of k
+unfolding name_read number_or_zero
 number-few k w = go (ltb (place_in (plain_names k) w) (count_of k)) (ltb (place_in (other_names k) w) (count_of k)) refl refl
   where
     go :
         (t u : Bool) →
         ltb (place_in (plain_names k) w) (count_of k) ≡ t →
         ltb (place_in (other_names k) w) (count_of k) ≡ u →
-        (cond t (the_number (first_of k + place_in (plain_names k) w)) (cond u (the_number (first_of k + place_in (other_names k) w)) (no_number bad_input))).number
+        number_or_zero (cond t (Ok (first_of k + place_in (plain_names k) w)) (cond u (Ok (first_of k + place_in (other_names k) w)) (Err BadInput)))
         < first_of k + count_of k
     go true u e f = omega (arith, ltb-true (place_in (plain_names k) w) (count_of k) e)
     go false true e f = omega (arith, ltb-true (place_in (other_names k) w) (count_of k) f)
     go false false e f = omega (arith, few k)
 
 -- A PRINTED NAME is read as its number
-pub printed-read : (k : Kind) (i : ℕ) → i < count_of k → name_read k (name_of k (first_of k + i)) ≡ the_number (first_of k + i)
+pub printed-read : (k : Kind) (i : ℕ) → i < count_of k → name_read k (name_of k (first_of k + i)) ≡ Ok (first_of k + i)
 printed-read k i h = rw (name-at-place k i) (at_place k (first_of k) (plain_names k) (plain-read k) i (omega (arith, (counted k).0)))
 
 -- and so is the other spelling, never as another's
-pub transliteration-read : (k : Kind) (i : ℕ) → i < count_of k → name_read k (name_at (other_names k) i) ≡ the_number (first_of k + i)
+pub transliteration-read : (k : Kind) (i : ℕ) → i < count_of k → name_read k (name_at (other_names k) i) ≡ Ok (first_of k + i)
 transliteration-read k i h = at_place k (first_of k) (other_names k) (other-read k) i (omega (arith, (counted k).1))
 
 -- TWO NAMES of a kind are not alike
 pub names-differ : (k : Kind) (i j : ℕ) → i < count_of k → j < count_of k → name_of k (first_of k + i) ≡ name_of k (first_of k + j) → i ≡ j
 names-differ k i j hi hj same =
-    let one = ap (λ (a : NumberAnswer). a.number) (sym (printed-read k i hi) ∙ ap (name_read k) same ∙ printed-read k j hj) in
+    let one : first_of k + i ≡ first_of k + j = cc (printed-read k i hi, printed-read k j hj) in
     omega (arith, one)

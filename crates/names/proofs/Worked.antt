@@ -3,7 +3,8 @@
 -- Assumes nothing.
 use mathlib.Core.Path.{◌≡◌, refl}
 use mathlib.Core.List.{[], ◌∷◌}
-use Rattle.days.specs.Days.{the_number, no_number}
+use Rattle.std.specs.Prelude.{Ok, Err}
+use Rattle.days.specs.declared.refusal.Refusal.TheVariants.{BadInput}
 use Rattle.text.specs.Ascii.{ascii}
 use Rattle.words.specs.Words.{behind_mark, small_byte, small_from, same_bytes, place_in, name_at}
 use Rattle.names.specs.declared.Kind.TheVariants.{Tithi, Nakshatra, Yoga, Karana, Sign, Month, Fortnight, Weekday}
@@ -31,23 +32,23 @@ pub worked-reading :
     ∷ name_read Nakshatra (utf8 "viěākhā")
     ∷ name_read Sign (ascii "purnima")
     ∷ []
-    ≡ the_number 14
-    ∷ the_number 19
-    ∷ the_number 0
-    ∷ the_number 15
-    ∷ the_number 15
-    ∷ the_number 26
-    ∷ the_number 1
-    ∷ the_number 11
-    ∷ the_number 1
-    ∷ the_number 3
-    ∷ the_number 1
-    ∷ the_number 6
-    ∷ no_number 3
-    ∷ no_number 3
-    ∷ no_number 3
-    ∷ no_number 3
-    ∷ no_number 3
+    ≡ Ok 14
+    ∷ Ok 19
+    ∷ Ok 0
+    ∷ Ok 15
+    ∷ Ok 15
+    ∷ Ok 26
+    ∷ Ok 1
+    ∷ Ok 11
+    ∷ Ok 1
+    ∷ Ok 3
+    ∷ Ok 1
+    ∷ Ok 6
+    ∷ Err BadInput
+    ∷ Err BadInput
+    ∷ Err BadInput
+    ∷ Err BadInput
+    ∷ Err BadInput
     ∷ []
 unfolding name_read place_in same_bytes small_from small_byte behind_mark
 worked-reading = refl

@@ -1,10 +1,9 @@
 -- The number of a name, and the name of a number. A name is read in two spellings, both in any letter case, and printed
 -- in the plain one. A karana's number counts from 1, all others from 0.
 -- Assumes nothing.
-use Rattle.std.specs.Prelude.{cond, List, [], map, ℕ, ◌+◌, ◌-◌, ltb}
-use Rattle.days.specs.declared.NumberAnswer.{NumberAnswer}
-use Rattle.days.specs.Days.{the_number, no_number}
-use Rattle.days.specs.Refusals.{bad_input}
+use Rattle.std.specs.Prelude.{cond, List, [], map, ℕ, ◌+◌, ◌-◌, ltb, Result, Ok, Err}
+use Rattle.days.specs.declared.refusal.Refusal.{Refusal}
+use Rattle.days.specs.declared.refusal.Refusal.TheVariants.{BadInput}
 use Rattle.text.specs.Ascii.{ascii}
 use Rattle.words.specs.Names.{weekday_names}
 use Rattle.words.specs.Words.{place_in, name_at}
@@ -56,10 +55,10 @@ first_of Fortnight = 0
 first_of Weekday = 0
 
 -- THE NUMBER OF A WORD that is a name in one of the two spellings; any other word is refused as a bad line is
-unfoldable pub name_read : Kind → List ℕ → NumberAnswer
+unfoldable pub name_read : Kind → List ℕ → Result ℕ Refusal
 name_read k w =
-    cond (ltb (place_in (plain_names k) w) (count_of k)) (the_number (first_of k + place_in (plain_names k) w))
-    (cond (ltb (place_in (other_names k) w) (count_of k)) (the_number (first_of k + place_in (other_names k) w)) (no_number bad_input))
+    cond (ltb (place_in (plain_names k) w) (count_of k)) (Ok (first_of k + place_in (plain_names k) w))
+    (cond (ltb (place_in (other_names k) w) (count_of k)) (Ok (first_of k + place_in (other_names k) w)) (Err BadInput))
 
 -- THE NAME OF A NUMBER, empty where it has none
 unfoldable pub name_of : Kind → ℕ → List ℕ

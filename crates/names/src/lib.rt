@@ -5,12 +5,12 @@
 mod tables;
 
 ghost use Rattle.std.specs.Prelude.{◌≡◌};
-ghost use Rattle.text.specs.Lines.{with_bytes};
-ghost use Rattle.words.specs.Words.{place_in, name_at};
+ghost use Rattle.text.specs.Lines.{space, with_bytes};
+ghost use Rattle.words.specs.Words.{pieces, name_at};
 ghost use Rattle.names.specs.Names.{plain_names, other_names, count_of, first_of, name_read, name_of};
 ghost use Rattle.names.specs.Columns.{blanks, column_of, padded_name, quoted_name};
 
-use days::{NumberAnswer, refusal};
+use days::refusal::Refusal;
 use tables::{
     FORTNIGHTS, KARANAS, MARKED_FORTNIGHTS, MARKED_KARANAS, MARKED_MONTHS, MARKED_NAKSHATRAS,
     MARKED_SIGNS, MARKED_TITHIS, MARKED_YOGAS, MONTHS, NAKSHATRAS, SHORT_WEEKDAYS, SIGNS, TITHIS,
@@ -73,69 +73,58 @@ fn first_of(kind: Kind) -> u32
     }
 }
 
-fn plain_place(kind: Kind, word: &[u8]) -> usize
-    ensures { result ≡ place_in (plain_names kind) word.now }
+// The names of a kind with a space between them, in the plain spelling.
+fn plain_names(kind: Kind) -> &'static [u8]
+    ensures { pieces space result.now ≡ plain_names kind }
 {
     match kind {
-        Kind::Tithi => place_in(&TITHIS, word),
-        Kind::Nakshatra => place_in(&NAKSHATRAS, word),
-        Kind::Yoga => place_in(&YOGAS, word),
-        Kind::Karana => place_in(&KARANAS, word),
-        Kind::Sign => place_in(&SIGNS, word),
-        Kind::Month => place_in(&MONTHS, word),
-        Kind::Fortnight => place_in(&FORTNIGHTS, word),
-        Kind::Weekday => place_in(&WEEKDAYS, word),
+        Kind::Tithi => &TITHIS,
+        Kind::Nakshatra => &NAKSHATRAS,
+        Kind::Yoga => &YOGAS,
+        Kind::Karana => &KARANAS,
+        Kind::Sign => &SIGNS,
+        Kind::Month => &MONTHS,
+        Kind::Fortnight => &FORTNIGHTS,
+        Kind::Weekday => &WEEKDAYS,
     }
 }
 
-fn other_place(kind: Kind, word: &[u8]) -> usize
-    ensures { result ≡ place_in (other_names kind) word.now }
+// And in the other.
+fn other_names(kind: Kind) -> &'static [u8]
+    ensures { pieces space result.now ≡ other_names kind }
 {
     match kind {
-        Kind::Tithi => place_in(&MARKED_TITHIS, word),
-        Kind::Nakshatra => place_in(&MARKED_NAKSHATRAS, word),
-        Kind::Yoga => place_in(&MARKED_YOGAS, word),
-        Kind::Karana => place_in(&MARKED_KARANAS, word),
-        Kind::Sign => place_in(&MARKED_SIGNS, word),
-        Kind::Month => place_in(&MARKED_MONTHS, word),
-        Kind::Fortnight => place_in(&MARKED_FORTNIGHTS, word),
-        Kind::Weekday => place_in(&SHORT_WEEKDAYS, word),
+        Kind::Tithi => &MARKED_TITHIS,
+        Kind::Nakshatra => &MARKED_NAKSHATRAS,
+        Kind::Yoga => &MARKED_YOGAS,
+        Kind::Karana => &MARKED_KARANAS,
+        Kind::Sign => &MARKED_SIGNS,
+        Kind::Month => &MARKED_MONTHS,
+        Kind::Fortnight => &MARKED_FORTNIGHTS,
+        Kind::Weekday => &SHORT_WEEKDAYS,
     }
 }
 
 // The number of a name in one of its two spellings; any other word is refused.
-pub fn number_of(kind: Kind, word: &[u8]) -> NumberAnswer
+#[tactic(auto, unfolding(crate::specs::Names::name_read))]
+pub fn number_of(kind: Kind, word: &[u8]) -> Result<u32, Refusal>
     ensures { result ≡ name_read kind word.now }
 {
     let count = count_of(kind);
     let first = first_of(kind);
-    let plain = plain_place(kind, word);
+    let plain = place_in(plain_names(kind), word);
     if plain < count {
-        return NumberAnswer::accepted(first + plain as u32);
+        return Ok(first + plain as u32);
     }
-    let other = other_place(kind, word);
+    let other = place_in(other_names(kind), word);
     if other < count {
-        return NumberAnswer::accepted(first + other as u32);
+        return Ok(first + other as u32);
     }
-    NumberAnswer::refused(refusal::BAD_INPUT)
-}
-
-fn put_place(line: Line, kind: Kind, place: usize) -> Line
-    ensures { result ≡ with_bytes line (name_at (plain_names kind) place) }
-{
-    match kind {
-        Kind::Tithi => line.text(name_at(&TITHIS, place)),
-        Kind::Nakshatra => line.text(name_at(&NAKSHATRAS, place)),
-        Kind::Yoga => line.text(name_at(&YOGAS, place)),
-        Kind::Karana => line.text(name_at(&KARANAS, place)),
-        Kind::Sign => line.text(name_at(&SIGNS, place)),
-        Kind::Month => line.text(name_at(&MONTHS, place)),
-        Kind::Fortnight => line.text(name_at(&FORTNIGHTS, place)),
-        Kind::Weekday => line.text(name_at(&WEEKDAYS, place)),
-    }
+    Err(Refusal::BadInput)
 }
 
 // The plain name of a number put behind a line; of a number that has none nothing is put.
+#[tactic(auto, unfolding(crate::specs::Names::name_of))]
 pub fn put_name(line: Line, kind: Kind, number: u32) -> Line
     ensures { result ≡ with_bytes line (name_of kind number) }
 {
@@ -143,7 +132,7 @@ pub fn put_name(line: Line, kind: Kind, number: u32) -> Line
     if number < first {
         return line.text(b"");
     }
-    put_place(line, kind, (number - first) as usize)
+    line.text(name_at(plain_names(kind), (number - first) as usize))
 }
 
 // The bytes of the longest plain name.
@@ -167,10 +156,8 @@ pub fn put_blanks(line: Line, from: usize, to: usize) -> Line
     ensures { result ≡ with_bytes line (blanks from to) }
 {
     let mut made = line;
-    let mut at = from;
-    while at < to {
+    for at in from..to {
         made = made.byte(b' ');
-        at += 1;
     }
     made
 }

@@ -1,15 +1,14 @@
 -- What is handed back for a span: no day of it is farther, the day has that distance, and no earlier day of the span
 -- has it; and nothing else is handed back that this holds of.
 -- Assumes nothing.
-use mathlib.Core.Path.{◌≡◌, refl, sym}
+use mathlib.Core.Path.{◌≡◌, refl}
 use Prim.Native.Nat.{ℕ, suc, ◌+◌, ◌*◌, ◌-◌, ◌≤◌, ◌<◌}
 use native.Mathlib.Omega.{arith}
-use borrow.Author.Tests.{eq-eqb, ne_eqb}
 use Rattle.integers.proofs.Reduced.{reduced-small}
-use Rattle.days.specs.Refusals.{accepted}
-use Rattle.days.specs.Days.{span_refusal}
-use Rattle.older_motions.specs.OlderMotions.{OlderMotion, sun_motion, moon_motion, apogee_motion, divisor_of, whole_circle, ahead_on, shorter_way, distance_on}
-use Rattle.older_motions.specs.Drifts.{farthest_over, no_drifts, drifts_over}
+use Rattle.std.specs.Prelude.{Ok}
+use Rattle.days.proofs.Laws.{Span, over-span}
+use Rattle.older_motions.specs.OlderMotions.{OlderMotion, divisor_of, whole_circle, ahead_on, shorter_way, distance_on}
+use Rattle.older_motions.specs.Drifts.{farthest_over, the_drifts, drifts_over}
 use Rattle.older_motions.proofs.Peaks.{Peak, peak-of, peak-most, peak-day}
 
 -- THE LAWS of an answer: of the distances from the first day to the last, the numerator is the largest, and the day the
@@ -42,15 +41,6 @@ pub distance_is : (m : OlderMotion) (n : ℕ) → shorter_way (whole_circle m) (
 unfolding distance_on
 distance_is m n = refl
 
--- the three of a span that is not refused, and the zeros of one that is
-pub drifts-given :
-    (first last : ℕ) →
-    span_refusal first last ≡ accepted →
-    drifts_over first last
-    ≡ record { refusal = accepted; sun = farthest_over sun_motion first last; moon = farthest_over moon_motion first last; apogee = farthest_over apogee_motion first last }
-unfolding drifts_over
-drifts-given first last e = rw (eq-eqb (span_refusal first last) accepted e)
-
-pub drifts-refused : (first last refusal : ℕ) → refusal ≡ span_refusal first last → (refusal ≡ accepted → ⊥) → drifts_over first last ≡ no_drifts refusal
-unfolding drifts_over
-drifts-refused first last refusal e r = rw (sym e, ne_eqb refusal accepted r)
+-- the three of a span that is not refused
+pub drifts-given : (first last : ℕ) → Span first last → drifts_over first last ≡ Ok (the_drifts first last)
+drifts-given first last s = over-span (Ok (the_drifts first last)) s

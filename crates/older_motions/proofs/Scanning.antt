@@ -29,40 +29,27 @@ module _ (m : OlderMotion) where
   scan-start first last circle distance scan h ec es ed =
       record { from = omega arith; upto = h; place = es; peak = rw (found first circle distance scan ec es ed) at (peak-one (distance_on m) first) }
 
-  pub scan-stays :
-      (first last most day next circle distance : ℕ) (before scan : Scan) →
-      Scanned m first last before most day next →
-      next < last →
-      circle ≡ whole_circle m →
-      Scans m scan (next + 1) →
-      distance ≡ shorter_way circle scan.ahead →
-      distance ≤ most →
-      Scanned m first last scan most day (next + 1)
-  scan-stays first last most day next circle distance before scan s h ec es ed l =
-      record {
-        from = omega (arith, s.from);
-        upto = omega arith;
-        place = es;
-        peak = peak-stays (distance_on m) first next most day s.peak (omega (arith, found (next + 1) circle distance scan ec es ed));
-      }
+  module _ (first last most day next after circle distance : ℕ) (before scan : Scan) (s : Scanned m first last before most day next) (e : after ≡ next + 1) (h : after ≤ last) (ec : circle ≡ whole_circle m) (es : Scans m scan after) (ed : distance ≡ shorter_way circle scan.ahead) where
+    reached : distance_on m (next + 1) ≡ distance
+    reached = found (next + 1) circle distance scan ec (still scan after (next + 1) e es) ed
 
-  pub scan-moves :
-      (first last most day next circle distance : ℕ) (before scan : Scan) →
-      Scanned m first last before most day next →
-      next < last →
-      circle ≡ whole_circle m →
-      Scans m scan (next + 1) →
-      distance ≡ shorter_way circle scan.ahead →
-      most < distance →
-      Scanned m first last scan distance (next + 1) (next + 1)
-  scan-moves first last most day next circle distance before scan s h ec es ed l =
-      let f = found (next + 1) circle distance scan ec es ed in
-      record {
-        from = omega (arith, s.from);
-        upto = omega arith;
-        place = es;
-        peak = rw f at (peak-moves (distance_on m) first next most day s.peak (omega arith));
-      }
+    pub scan-stays : distance ≤ most → Scanned m first last scan most day after
+    scan-stays l =
+        record {
+          from = omega (arith, s.from);
+          upto = h;
+          place = es;
+          peak = rw e (peak-stays (distance_on m) first next most day s.peak (omega (arith, reached)));
+        }
+
+    pub scan-moves : most < distance → Scanned m first last scan distance after after
+    scan-moves l =
+        record {
+          from = omega (arith, s.from);
+          upto = h;
+          place = es;
+          peak = rw e (rw reached at (peak-moves (distance_on m) first next most day s.peak (omega (arith, reached))));
+        }
 
   pub scan-end :
       (first last most day next divisor : ℕ) (scan : Scan) →

@@ -5,10 +5,11 @@
 ghost use Rattle.std.specs.Prelude.{◌≡◌, ◌+◌, ◌-◌, ◌%◌, ◌≤◌, ◌<◌};
 ghost use Rattle.days.specs.Days.{last_day};
 ghost use Rattle.older_motions.specs.OlderMotions.{divisor_of, whole_circle, ahead_on, shorter_way};
-ghost use Rattle.older_motions.specs.Drifts.{farthest_over, no_drifts, drifts_over};
+ghost use Rattle.older_motions.specs.Drifts.{farthest_over, drifts_over};
 ghost use Rattle.older_motions.specs.Parts.{motion_of, Sizes, Scans};
 
-use days::{Day, refusal};
+use days::Day;
+use days::refusal::Refusal;
 use longitudes::{CIRCLE, Motion};
 
 // The largest distance over a span, as a fraction of a second of arc, and the first day that has it.
@@ -19,10 +20,9 @@ pub struct Farthest {
     pub day: u32,
 }
 
-// A refusal has all zeros.
+// Of the three.
 #[derive(Clone, Copy)]
 pub struct Drifts {
-    pub refusal: u32,
     pub sun: Farthest,
     pub moon: Farthest,
     pub apogee: Farthest,
@@ -148,9 +148,7 @@ fn farthest_over(motion: CodedMotion, first: u32, last: u32) -> Farthest
     let mut scan = scan_from(motion, first);
     let mut numerator = shorter_way(scan.ahead, circle);
     let mut day = first;
-    let mut next = first;
-    while next < last {
-        next += 1;
+    for next in first + 1..=last {
         scan = scan_next(motion, scan, gain, next);
         let distance = shorter_way(scan.ahead, circle);
         if numerator < distance {
@@ -165,38 +163,13 @@ fn farthest_over(motion: CodedMotion, first: u32, last: u32) -> Farthest
     }
 }
 
-// A refusal and all zeros.
-pub fn no_drifts(refusal: u32) -> Drifts
-    ensures { result ≡ no_drifts refusal }
-{
-    let nothing = Farthest {
-        numerator: 0,
-        divisor: 0,
-        day: 0,
-    };
-    Drifts {
-        refusal,
-        sun: nothing,
-        moon: nothing,
-        apogee: nothing,
-    }
-}
-
 // The three over the days from the first to the last, both counted.
-pub fn drift(first: u32, last: u32) -> Drifts
+pub fn drift(first: u32, last: u32) -> Result<Drifts, Refusal>
     ensures { result ≡ drifts_over first last }
 {
-    let refused = days::span_refusal(first, last);
-    if refused != refusal::NONE {
-        return no_drifts(refused);
-    }
+    days::check_span(first, last)?;
     let sun = farthest_over(SUN, first, last);
     let moon = farthest_over(MOON, first, last);
     let apogee = farthest_over(APOGEE, first, last);
-    Drifts {
-        refusal: refusal::NONE,
-        sun,
-        moon,
-        apogee,
-    }
+    Ok(Drifts { sun, moon, apogee })
 }

@@ -3,14 +3,17 @@
 use mathlib.Core.Path.{◌≡◌, refl, ap, sym, ◌∙◌}
 use mathlib.Core.Bool.{Bool, true, false, cond, ◌&&◌, and-eq-true_iff, false≢true}
 use mathlib.Core.List.{List, [], ◌∷◌}
-use Prim.Native.Nat.{ℕ, zero, suc, ◌-◌, ◌≤◌, ◌<◌}
+use Rattle.std.specs.Prelude.{Option, Some, None, Result, Ok, Err, ⊤, IfOk}
+use Rattle.std.proofs.lemmas.Option.{none-some}
+use Rattle.std.proofs.lemmas.Result.{IfOk-at_ok}
+use Prim.Native.Nat.{ℕ, suc, ◌-◌, ◌≤◌, ◌<◌}
 use native.Mathlib.Omega.{arith}
-use borrow.Author.Tests.{eqb-true, eqb-false, leb-false, ltb-true, le-leb, lt-ltb}
+use borrow.Author.Tests.{eqb-true, eqb-false, ltb-true, le-leb}
 use lib.Dec.{eqb, leb, ltb}
 use lib.ListN.{length, get_or, set, replicate, length-set, length-replicate}
 use lib.Seq.{get_or-set_same, get_or-set_other}
-use Rattle.days.specs.declared.NumberAnswer.{NumberAnswer}
-use Rattle.days.specs.Refusals.{bad_input}
+use Rattle.days.specs.declared.refusal.Refusal.{Refusal}
+use Rattle.days.specs.Refusals.{bad_input, refusal_number, and_then}
 use Rattle.days.specs.Days.{last_day}
 use Rattle.panchanga.specs.TrueLongitudes.{first_edition, is_edition}
 use Rattle.query.specs.declared.Asked.{Asked}
@@ -18,161 +21,55 @@ use Rattle.query.specs.declared.Weekdays.{Weekdays}
 use Rattle.query.specs.declared.BodyArcs.{BodyArcs}
 use Rattle.query.specs.declared.Query.{Query}
 use Rattle.query.specs.Conditions.{numbers_in_range, asked_in_range, weekdays_in_range, arcs_at, arc_in_range, body_arcs_in_range, arcs_in_range, true_arcs_in_range, elements_in_range, conditions_in_range, not_asked, no_weekdays, no_arcs}
-use Rattle.query.specs.Query.{refusal_of}
+use Rattle.query.specs.Query.{refusal_of, check_of}
 use Rattle.query.proofs.Conditions.{arcs-true, arcs-false, true-arcs-true, true-arcs-false}
-use Rattle.query.proofs.Accepted.{accepted-by}
-use Rattle.names.specs.declared.Kind.TheVariants.{Weekday}
-use Rattle.values.specs.Values.{most_of}
-use Rattle.values.proofs.Refusals.{either, OfReading, number-refusal, day-refusal, set-of-refusal, none-refusal}
-use Rattle.words.specs.Words.{first_word, after_word, after_words, place_in}
-use Rattle.page.specs.Names.{keywords, print_names}
+use Rattle.query.proofs.Accepted.{accepted-by, checked}
+use Rattle.values.proofs.Refusals.{either}
+use Rattle.words.specs.Words.{first_word, after_words, place_in}
+use Rattle.page.specs.Names.{keywords}
 use Rattle.page.specs.declared.Values.{Values}
-use Rattle.page.specs.declared.ArcRead.{ArcRead}
 use Rattle.page.specs.declared.LineRead.{LineRead}
+use Rattle.page.specs.declared.LineRead.TheVariants.{Blank, Malformed, Condition}
+use Rattle.page.specs.declared.PageRead.{PageRead}
 use Rattle.page.specs.declared.Fault.{Fault}
 use Rattle.page.specs.declared.Page.{Page}
-use Rattle.page.specs.Page.{span_keyword, weekday_keyword, tithi_keyword, nakshatra_keyword, yoga_keyword, edition_keyword, arc_keywords, karana_keyword, true_keywords, print_keyword, keyword_count, is_element, element_of, has_arcs, every_day, with_condition, print_read, with_print, rank_of, ranks_before, first_refusal, first_value, second_value, numbers_read, arcs_read, arcs_in, most_values, values_read, unknown_word, other_values, malformed_line, blank_line, refused_as, condition_read, words_read, line_read, first_fault, with_fault, with_line, with_lines, empty_page, page_answer, lines_of, page_read}
+use Rattle.page.specs.Page.{span_keyword, weekday_keyword, tithi_keyword, nakshatra_keyword, yoga_keyword, edition_keyword, arc_keywords, karana_keyword, true_keywords, print_keyword, keyword_count, every_day, with_condition, most_values, values_read, alone_read, condition_read, words_read, line_read, with_fault, with_new, with_keyword, with_line, with_lines, empty_page, answer_unless, page_answer, lines_of, page_read}
 
--- a refusal that has a rank
-abbrev pub Ranked : ℕ → Type 0
-Ranked r = (r ≡ 0 → ⊥) → rank_of r < 6
+-- a condition that a line does not refuse is not refused alone
+abbrev pub SoundLine : LineRead → Type 0
+SoundLine Blank = ⊤
+SoundLine (Malformed _) = ⊤
+SoundLine (Condition k (Ok v)) = refusal_of (with_condition every_day k v) ≡ 0
+SoundLine (Condition k (Err _)) = ⊤
 
-ranked-0 : Ranked 0
-ranked-0 h = absurd (h refl)
-
-pub ranked-all : Ranked 1 × Ranked 2 × Ranked 3 × Ranked 5 × Ranked 6 × Ranked 14
-unfolding rank_of
-ranked-all = (λ _. omega arith, λ _. omega arith, λ _. omega arith, λ _. omega arith, λ _. omega arith, λ _. omega arith)
-
--- the refusals of a value that is read
-ranked-read : (r : ℕ) → r ≤ bad_input → Ranked r
-ranked-read zero h = ranked-0
-ranked-read (suc zero) h = ranked-all.0
-ranked-read (suc (suc zero)) h = ranked-all.1
-ranked-read (suc (suc (suc zero))) h = ranked-all.2
-ranked-read (suc (suc (suc (suc r)))) h = absurd (omega arith)
-
-first-refusal-ranked : (r t : ℕ) → Ranked r → Ranked t → Ranked (first_refusal r t)
-unfolding first_refusal ranks_before
-first-refusal-ranked r t kr kt = either Ranked (ltb (rank_of t) (rank_of r)) kt kr
-
--- the values of a line
-abbrev RankedValues : Values → Type 0
-RankedValues v = Ranked v.refusal
-
-numbers-ranked : (a b : NumberAnswer) → OfReading a → OfReading b → RankedValues (numbers_read a b)
-unfolding numbers_read
-numbers-ranked a b ka kb =
-    either RankedValues (eqb (first_refusal a.refusal b.refusal) 0) ranked-0
-    (first-refusal-ranked a.refusal b.refusal (ranked-read _ ka) (ranked-read _ kb))
-
-print-refusal : (w : List ℕ) → OfReading (print_read w)
-unfolding print_read
-print-refusal w = either OfReading (ltb (place_in print_names w) 2) (omega arith) (omega arith)
-
-first-value-read : (k : ℕ) (w : List ℕ) → OfReading (first_value k w)
-unfolding first_value
-first-value-read k w =
-    either OfReading (eqb k span_keyword) (day-refusal w) (either OfReading (eqb k print_keyword) (print-refusal w) (number-refusal w))
-
-second-value-read : (k : ℕ) (w : List ℕ) → OfReading (second_value k w)
-unfolding second_value
-second-value-read k w = either OfReading (eqb k span_keyword) (day-refusal w) (none-refusal w)
-
-arcs-ranked : (a b : ArcRead) (left : List ℕ) → RankedValues (arcs_read a b left)
-unfolding arcs_read
-arcs-ranked a b left = either RankedValues (a.read && (b.read && eqb (length left) 0)) ranked-0 ranked-all.2
-
-values-ranked : (k : ℕ) (t : List ℕ) → RankedValues (values_read k t)
-unfolding values_read arcs_in
-values-ranked k t =
-    either RankedValues (eqb k weekday_keyword) (numbers-ranked _ _ (set-of-refusal Weekday (most_of Weekday) 0 t) (omega arith))
-    (either RankedValues (is_element k) (numbers-ranked _ _ (set-of-refusal (element_of k) (most_of (element_of k)) 0 t) (omega arith))
-    (either RankedValues (has_arcs k) (arcs-ranked _ _ _)
-    (numbers-ranked _ _ (first-value-read k (first_word t)) (second-value-read k (first_word (after_word t))))))
-
-query-ranked : (q : Query) → Ranked (refusal_of q)
-unfolding refusal_of
-query-ranked q =
-    either Ranked (is_edition q.edition)
-    (either Ranked (leb q.first last_day && leb q.last last_day)
-    (either Ranked (leb q.first q.last) (either Ranked (conditions_in_range q) ranked-0 ranked-all.4) ranked-all.3)
-    ranked-all.1)
-    ranked-all.5
-
--- a line's refusal has a rank, and a condition that it does not refuse is not refused alone
-pub record SoundLine (l : LineRead) : Type 0 where
-  pub ranked : Ranked l.refusal
-  alone : l.refusal ≡ 0 → l.keyword < keyword_count → refusal_of (with_condition every_day l.keyword l.values) ≡ 0
-
-blank-sound : SoundLine blank_line
-blank-sound = record { ranked = ranked-0; alone = λ r k. absurd (omega arith) }
-
-malformed-sound : (why : ℕ) → SoundLine (malformed_line why)
-malformed-sound why = record { ranked = ranked-all.2; alone = λ r k. absurd (omega arith) }
-
-condition-sound : (k : ℕ) (v : Values) → RankedValues v → SoundLine (condition_read k v)
-unfolding condition_read refused_as
-condition-sound k v kv = either SoundLine (eqb v.refusal 3) (malformed-sound _) (go (eqb v.refusal 0) refl)
+alone-sound : (k : ℕ) (v : Values) → SoundLine (Condition k (alone_read k v))
+unfolding alone_read
+alone-sound k v = go (check_of (with_condition every_day k v)) refl
   where
-    go : (t : Bool) → eqb v.refusal 0 ≡ t → SoundLine (refused_as k v (cond t (refusal_of (with_condition every_day k v)) v.refusal))
-    go true e = record { ranked = query-ranked _; alone = λ r _. r }
-    go false e = record { ranked = kv; alone = λ r _. absurd (eqb-false _ _ e r) }
+    go : (a : Result (Unit {0}) Refusal) → check_of (with_condition every_day k v) ≡ a → SoundLine (Condition k (and_then a (λ _. Ok v)))
+    go (Ok u) e = checked _ (sym e)
+    go (Err r) e = tt {0}
+
+condition-sound : (k : ℕ) (v : Result Values Refusal) → SoundLine (condition_read k v)
+unfolding condition_read
+condition-sound k (Ok v) = alone-sound k v
+condition-sound k (Err r) = either SoundLine (eqb (refusal_number r) bad_input) (tt {0}) (tt {0})
 
 words-sound : (name behind : List ℕ) → SoundLine (words_read name behind)
 unfolding words_read
 words-sound name behind =
     let k = place_in keywords name in
-    either SoundLine (eqb (length name) 0) blank-sound
-    (either SoundLine (leb keyword_count k) (malformed-sound unknown_word)
-    (either SoundLine (eqb (length (first_word (after_words (most_values k) behind))) 0)
-    (condition-sound k (values_read k behind) (values-ranked k behind))
-    (malformed-sound (other_values k))))
+    either SoundLine (eqb (length name) 0) (tt {0})
+    (either SoundLine (leb keyword_count k) (tt {0})
+    (either SoundLine (eqb (length (first_word (after_words (most_values k) behind))) 0) (condition-sound k (values_read k behind)) (tt {0})))
 
-pub line-read-sound : (l : List ℕ) → SoundLine (line_read l)
+line-read-sound : (l : List ℕ) → SoundLine (line_read l)
 unfolding line_read
 line-read-sound l = words-sound _ _
 
-rank_most : (r : ℕ) → rank_of r ≤ 6
-unfolding rank_of
-rank_most r =
-    either (λ n. n ≤ 6) (eqb r 14) (omega arith)
-    (either (λ n. n ≤ 6) (eqb r 3) (omega arith)
-    (either (λ n. n ≤ 6) (eqb r 1) (omega arith)
-    (either (λ n. n ≤ 6) (eqb r 2) (omega arith)
-    (either (λ n. n ≤ 6) (eqb r 5) (omega arith) (either (λ n. n ≤ 6) (eqb r 6) (omega arith) (omega arith))))))
-
-rank-accepted : rank_of 0 ≡ 6
-unfolding rank_of
-rank-accepted = refl
-
--- where the first of two faults is none, neither is one
-pub first-fault-former : (f g : Fault) → (first_fault f g).refusal ≡ 0 → f.refusal ≡ 0
-unfolding first_fault ranks_before
-first-fault-former f g = go (ltb (rank_of g.refusal) (rank_of f.refusal)) refl
-  where
-    go :
-        (t : Bool) →
-        ltb (rank_of g.refusal) (rank_of f.refusal) ≡ t →
-        (cond t g f).refusal ≡ 0 →
-        f.refusal ≡ 0
-    go true e r =
-        absurd
-        (omega (arith, ltb-true (rank_of g.refusal) (rank_of f.refusal) e, rank_most f.refusal, ap rank_of r ∙ rank-accepted))
-    go false e r = r
-
-pub first-fault-latter : (f g : Fault) → Ranked g.refusal → (first_fault f g).refusal ≡ 0 → g.refusal ≡ 0
-unfolding first_fault ranks_before
-first-fault-latter f g k r = go (eqb g.refusal 0) refl
-  where
-    none : f.refusal ≡ 0
-    none = first-fault-former f g r
-
-    go : (t : Bool) → eqb g.refusal 0 ≡ t → g.refusal ≡ 0
-    go true e = eqb-true g.refusal 0 e
-    go false e =
-        let lower = k (eqb-false g.refusal 0 e) in
-        rw (lt-ltb (rank_of g.refusal) (rank_of f.refusal) (omega (arith, ap rank_of none ∙ rank-accepted))) at r
+-- a fault is some fault
+pub no-fault : (f : Fault) → Some f ≡ None → ⊥
+no-fault f e = none-some f (sym e)
 
 -- the arcs of so many bodies are in range
 abbrev EachInRange : ℕ → List BodyArcs → Type 0
@@ -333,31 +230,27 @@ seven-kept q k v = arcs-kept (leb true_keywords k && ltb k print_keyword) q.true
 record SoundPage (p : Page) : Type 0 where
   nine : length p.query.arcs ≡ 9
   seven : length p.query.true_arcs ≡ 7
-  accepted : p.fault.refusal ≡ 0 → Accepted p.query
+  accepted : p.fault ≡ None → Accepted p.query
 
 with-fault-sound : (p : Page) (f : Fault) → SoundPage p → SoundPage (with_fault p f)
-with-fault-sound p f s = record { nine = s.nine; seven = s.seven; accepted = λ r. s.accepted (first-fault-former p.fault f r) }
+with-fault-sound p f s = record { nine = s.nine; seven = s.seven; accepted = λ e. absurd (no-fault _ e) }
+
+new-sound : (p : Page) (n k : ℕ) (v : Result Values Refusal) → SoundPage p → SoundLine (Condition k v) → SoundPage (with_new p n k v)
+new-sound p n k (Ok v) s sound =
+    record {
+      nine = nine-kept p.query k v ∙ s.nine;
+      seven = seven-kept p.query k v ∙ s.seven;
+      accepted = λ e. together p.query k v s.nine s.seven (s.accepted e) (accepted-parts _ sound);
+    }
+new-sound p n k (Err r) s sound =
+    record { nine = s.nine; seven = s.seven; accepted = λ e. absurd (no-fault _ e) }
 
 line-sound : (p : Page) (n : ℕ) (l : LineRead) → SoundPage p → SoundLine l → SoundPage (with_line p n l)
-unfolding with_line
-line-sound p n l s sound = go (leb keyword_count l.keyword) refl
-  where
-    f : Fault
-    f = record { refusal = l.refusal; reason = l.reason; line = n }
-
-    new : l.keyword < keyword_count → SoundPage (record { fault = first_fault p.fault f; present = set p.present l.keyword true; query = with_condition p.query l.keyword l.values; print = with_print p.print l.keyword l.values })
-    new h =
-        record {
-          nine = nine-kept p.query l.keyword l.values ∙ s.nine;
-          seven = seven-kept p.query l.keyword l.values ∙ s.seven;
-          accepted = λ r.
-              together p.query l.keyword l.values s.nine s.seven (s.accepted (first-fault-former p.fault f r))
-              (accepted-parts _ (sound.alone (first-fault-latter p.fault f sound.ranked r) h));
-        }
-
-    go : (t : Bool) → leb keyword_count l.keyword ≡ t → SoundPage (with_line p n l)
-    go true e = rw e (with-fault-sound p f s)
-    go false e = rw e (either SoundPage (get_or p.present l.keyword false) (with-fault-sound p _ s) (new (leb-false keyword_count l.keyword e)))
+unfolding with_line with_keyword
+line-sound p n Blank s sound = s
+line-sound p n (Malformed why) s sound = with-fault-sound p _ s
+line-sound p n (Condition k v) s sound =
+    either SoundPage (get_or p.present k false) (with-fault-sound p _ s) (new-sound p n k v s sound)
 
 lines-sound : (p : Page) (n : ℕ) (ls : List (List ℕ)) → SoundPage p → SoundPage (with_lines p n ls)
 unfolding with_lines
@@ -372,13 +265,23 @@ every-accepted = refl
 empty-sound : SoundPage empty_page
 empty-sound = record { nine = refl; seven = refl; accepted = λ _. accepted-parts every_day every-accepted }
 
-pub accepted-page : (text : List ℕ) → (page_read text).refusal ≡ 0 → refusal_of (page_read text).query ≡ 0
-unfolding page_read page_answer
-accepted-page text = go (with_lines empty_page 1 (lines_of text)) (lines-sound empty_page 1 (lines_of text) empty-sound)
+-- the page that an answer comes from has no fault
+pub answered : (p : Page) {r : PageRead} → page_answer p ≡ Ok r → p.fault ≡ None
+unfolding page_answer
+answered p {r} = go p.fault refl
   where
-    go : (p : Page) → SoundPage p → (page_answer p).refusal ≡ 0 → refusal_of (page_answer p).query ≡ 0
-    go p s = fault (eqb p.fault.refusal 0) refl
+    go : (f : Option Fault) → p.fault ≡ f → answer_unless f (record { query = p.query; print = p.print }) ≡ Ok r → p.fault ≡ None
+    go None e h = e
+    go (Some f) e h = absurd cc
+
+-- AN ACCEPTED PAGE has a query that is not refused
+pub accepted-page : (text : List ℕ) {r : PageRead} → page_read text ≡ Ok r → refusal_of r.query ≡ 0
+unfolding page_read page_answer
+accepted-page text {r} h = go (with_lines empty_page 1 (lines_of text)) (lines-sound empty_page 1 (lines_of text) empty-sound) h
+  where
+    go : (p : Page) → SoundPage p → page_answer p ≡ Ok r → refusal_of r.query ≡ 0
+    go p s h = IfOk-at_ok (λ (r : PageRead). refusal_of r.query ≡ 0) h (is p.fault refl)
       where
-        fault : (t : Bool) → eqb p.fault.refusal 0 ≡ t → (page_answer p).refusal ≡ 0 → refusal_of (page_answer p).query ≡ 0
-        fault true e r = rw e (parts-accepted p.query (s.accepted (eqb-true p.fault.refusal 0 e)))
-        fault false e r = absurd (eqb-false p.fault.refusal 0 e (rw e at r))
+        is : (f : Option Fault) → p.fault ≡ f → IfOk (answer_unless f (record { query = p.query; print = p.print })) (λ (r : PageRead). refusal_of r.query ≡ 0)
+        is None e = parts-accepted p.query (s.accepted e)
+        is (Some f) e = tt {0}

@@ -6,16 +6,44 @@ use mathlib.Core.List.{List, [], ◌∷◌}
 use Prim.Native.Nat.{ℕ, suc, ◌+◌, ◌≤◌, ◌<◌}
 use native.Mathlib.Omega.{arith}
 use native.Mathlib.Numerals.{add-one}
-use borrow.Author.Tests.{ne_eqb}
+use borrow.Author.Tests.{ne_eqb, leb-false}
 use lib.ListN.{length}
 use Rattle.text.specs.Lines.{newline}
-use Rattle.words.specs.Words.{run_length, up_to, after_first, pieces, unmarked}
+use Rattle.words.specs.Words.{hash, run_length, up_to, after_first, first_word, after_word, after_words, pieces, unmarked, place_in}
+use Rattle.values.proofs.Refusals.{either}
+use Rattle.page.specs.Names.{keywords}
 use Rattle.words.proofs.Marks.{unmarked-shorter}
 use Rattle.words.proofs.Runs.{run-le}
 use Rattle.words.proofs.Pieces.{pieces-first, pieces-last, pieces_more, after-shorter}
-use Rattle.days.specs.Refusals.{bad_input}
 use Rattle.page.specs.declared.Page.{Page}
-use Rattle.page.specs.Page.{not_ended, line_read, with_fault, with_line, with_lines, empty_page, page_answer, lines_of, page_read}
+use Rattle.page.specs.declared.Reason.TheVariants.{UnknownWord, NotEnded, OtherValues}
+use Rattle.days.specs.declared.refusal.Refusal.{Refusal}
+use Rattle.page.specs.declared.Values.{Values}
+use Rattle.std.specs.Prelude.{Result, Ok, Err, cond, leb, eqb}
+use Rattle.std.proofs.lemmas.Bool.{cond_both}
+use Rattle.days.specs.Refusals.{bad_input, refusal_number}
+use Rattle.page.specs.Page.{keyword_count, HasKeyword, malformed_at, most_values, values_read, malformed_line, condition_read, words_read, line_read, with_fault, with_line, with_lines, empty_page, page_answer, lines_of, page_read}
+
+-- a line that is read has a keyword among the keywords, if any
+condition-known : (k : ℕ) (v : Result Values Refusal) → k < keyword_count → HasKeyword (condition_read k v)
+unfolding condition_read
+condition-known k (Ok v) h = h
+condition-known k (Err r) h = either HasKeyword (eqb (refusal_number r) bad_input) (tt {0}) h
+
+words-known : (name behind : List ℕ) → HasKeyword (words_read name behind)
+unfolding words_read
+words-known name behind =
+    let k = place_in keywords name in
+    either HasKeyword (eqb (length name) 0) (tt {0})
+    (cond_both (leb keyword_count k) (malformed_line UnknownWord)
+    (cond (eqb (length (first_word (after_words (most_values k) behind))) 0) (condition_read k (values_read k behind)) (malformed_line (OtherValues k)))
+    HasKeyword
+    (λ _. tt {0})
+    (λ known. either HasKeyword (eqb (length (first_word (after_words (most_values k) behind))) 0) (condition-known k (values_read k behind) (leb-false keyword_count k known)) (tt {0})))
+
+pub keyword-known : (l : List ℕ) → HasKeyword (line_read l)
+unfolding line_read
+keyword-known l = words-known (first_word (up_to hash l)) (after_word (up_to hash l))
 
 lines_more :
     (p : Page) (n : ℕ) (l text : List ℕ) →
@@ -30,7 +58,7 @@ lines-last p n = refl
 lines-not-ended :
     (p : Page) (n : ℕ) (l : List ℕ) →
     (length l ≡ 0 → ⊥) →
-    with_lines p n (l ∷ []) ≡ with_fault p (record { refusal = bad_input; reason = not_ended; line = n })
+    with_lines p n (l ∷ []) ≡ with_fault p (malformed_at NotEnded n)
 unfolding with_lines
 lines-not-ended p n l h = rw (ne_eqb (length l) 0 h)
 
@@ -56,7 +84,7 @@ module _ (text : List ℕ) (p : Page) (n : ℕ) (rest : List ℕ) (r : Reading t
   pub reading-not-ended :
       0 < length rest →
       run_length false newline rest ≡ length rest →
-      page_answer (with_fault p (record { refusal = bad_input; reason = not_ended; line = n })) ≡ page_read text
+      page_answer (with_fault p (malformed_at NotEnded n)) ≡ page_read text
   unfolding page_read
   reading-not-ended some whole =
       ap page_answer

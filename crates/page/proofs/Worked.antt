@@ -18,26 +18,32 @@ use Rattle.query.specs.declared.BodyArcs.{BodyArcs}
 use Rattle.query.specs.declared.Query.{Query}
 use Rattle.query.specs.declared.Weekdays.{Weekdays}
 use Rattle.query.specs.Conditions.{has_number, with_number, numbers_in_range, weekdays_in_range, arc_in_range, body_arcs_in_range, arcs_in_range, true_arcs_in_range, elements_in_range, conditions_in_range, not_asked, no_weekdays, only_weekday, only_arc, no_arcs}
-use Rattle.query.specs.Query.{refusal_of}
+use Rattle.query.specs.Query.{check_of}
 use Rattle.text.specs.Ascii.{ascii}
 use Rattle.text.specs.Decimal.{is_digit, all_digits, with_digit, value_of, is_number, number_read}
-use Rattle.days.specs.Days.{last_day}
+use Rattle.days.specs.Days.{last_day, answer_over}
 use Rattle.days.specs.Weekdays.{in_set}
 use Rattle.values.specs.Values.{three_read, two_read, degrees_read, sexagesimal_read, number_or, angle_read, day_read, elapsed_in, half_read, half_named, name_value, value_read, with_weekday, in_numbers, with_number_read, with_value, set_read, set_of, none_read}
 use Rattle.words.specs.Words.{is_separator, run_length, up_to, after_first, trimmed, after_words, in_front, pieces, same_bytes, behind_mark, small_byte, small_from, unmarked, place_in}
+use Rattle.std.specs.Prelude.{Option, Some, None, Result, Ok, Err}
+use Rattle.days.specs.declared.refusal.Refusal.{Refusal}
+use Rattle.days.specs.declared.refusal.Refusal.TheVariants.{BadInput, LastBeforeFirst, BadCondition, BadEdition}
+use Rattle.page.specs.declared.Fault.{Fault}
 use Rattle.page.specs.declared.PageRead.{PageRead}
-use Rattle.page.specs.Page.{is_element, element_of, has_arcs, only_span, every_day, with_condition, rank_of, ranks_before, first_refusal, print_read, with_print, first_value, second_value, numbers_read, arc_read, width_to, to_arc, named_arc, arc_in, arc_words, second_arc_in, arcs_read, arcs_in, most_values, values_read, unknown_word, repeated_word, not_ended, other_values, refused_as, condition_read, words_read, line_read, first_fault, with_line, with_lines, page_answer, page_read}
+use Rattle.page.specs.declared.Reason.{Reason}
+use Rattle.page.specs.declared.Reason.TheVariants.{UnknownWord, RepeatedWord, NotEnded, OtherValues}
+use Rattle.page.specs.Page.{is_element, element_of, has_arcs, every_day, with_condition, rank_of, ranks_before, first_refusal, print_read, with_print, first_value, second_value, numbers_read, arc_read, width_to, to_arc, named_arc, arc_in, arc_words, second_arc_in, arcs_read, arcs_in, most_values, values_read, refused_as, condition_read, words_read, line_read, first_fault, with_line, with_lines, page_answer, page_read, both_read, alone_read, with_keyword}
 
-abbrev accepts : Query → PageRead
-accepts q = record { refusal = 0; reason = 0; line = 0; query = q; print = Numbers }
+abbrev accepts : Query → Result PageRead Fault
+accepts q = Ok (record { query = q; print = Numbers })
 
 -- refused r for a reason, at a line
-abbrev refuses : ℕ → ℕ → ℕ → PageRead
-refuses r why n = record { refusal = r; reason = why; line = n; query = only_span 0 0 0; print = Numbers }
+abbrev refuses : Refusal → Option Reason → ℕ → Result PageRead Fault
+refuses r why n = Err (record { refusal = r; reason = why; line = n })
 
 -- every day, printed so
-abbrev prints : Print → PageRead
-prints form = record { refusal = 0; reason = 0; line = 0; query = every_day; print = form }
+abbrev prints : Print → Result PageRead Fault
+prints form = Ok (record { query = every_day; print = form })
 
 -- a query: its first and last day, edition, weekdays, tithis, nakshatras, yogas and karanas, and the arcs of mean and
 -- of true places
@@ -164,37 +170,37 @@ pub worked :
     ∷ []
     ≡ accepts every_day
     ∷ accepts four_days
-    ∷ refuses 6 (other_values 4) 1
-    ∷ refuses 3 unknown_word 2
-    ∷ refuses 5 0 2
-    ∷ refuses 3 repeated_word 2
-    ∷ refuses 3 not_ended 1
+    ∷ refuses BadCondition (Some (OtherValues 4)) 1
+    ∷ refuses BadInput (Some UnknownWord) 2
+    ∷ refuses LastBeforeFirst None 2
+    ∷ refuses BadInput (Some RepeatedWord) 2
+    ∷ refuses BadInput (Some NotEnded) 1
     ∷ accepts every_day
-    ∷ refuses 14 0 2
-    ∷ refuses 14 0 2
+    ∷ refuses BadEdition None 2
+    ∷ refuses BadEdition None 2
     ∷ accepts either_arc
-    ∷ refuses 3 (other_values 1) 1
-    ∷ refuses 6 (other_values 1) 1
-    ∷ refuses 3 (other_values 1) 1
-    ∷ refuses 3 (other_values 1) 1
-    ∷ refuses 3 (other_values 6) 1
-    ∷ refuses 3 (other_values 6) 1
-    ∷ refuses 6 (other_values 6) 1
+    ∷ refuses BadInput (Some (OtherValues 1)) 1
+    ∷ refuses BadCondition (Some (OtherValues 1)) 1
+    ∷ refuses BadInput (Some (OtherValues 1)) 1
+    ∷ refuses BadInput (Some (OtherValues 1)) 1
+    ∷ refuses BadInput (Some (OtherValues 6)) 1
+    ∷ refuses BadInput (Some (OtherValues 6)) 1
+    ∷ refuses BadCondition (Some (OtherValues 6)) 1
     ∷ accepts full_moon
     ∷ accepts any_tithi
     ∷ accepts element_sets
     ∷ accepts true_places
-    ∷ refuses 3 (other_values 2) 1
-    ∷ refuses 3 (other_values 2) 1
-    ∷ refuses 6 (other_values 2) 1
-    ∷ refuses 6 (other_values 2) 1
-    ∷ refuses 3 (other_values 2) 1
-    ∷ refuses 3 (other_values 2) 1
-    ∷ refuses 6 (other_values 15) 1
-    ∷ refuses 6 (other_values 15) 1
-    ∷ refuses 3 unknown_word 1
-    ∷ refuses 6 (other_values 17) 1
-    ∷ refuses 3 (other_values 4) 1
+    ∷ refuses BadInput (Some (OtherValues 2)) 1
+    ∷ refuses BadInput (Some (OtherValues 2)) 1
+    ∷ refuses BadCondition (Some (OtherValues 2)) 1
+    ∷ refuses BadCondition (Some (OtherValues 2)) 1
+    ∷ refuses BadInput (Some (OtherValues 2)) 1
+    ∷ refuses BadInput (Some (OtherValues 2)) 1
+    ∷ refuses BadCondition (Some (OtherValues 15)) 1
+    ∷ refuses BadCondition (Some (OtherValues 15)) 1
+    ∷ refuses BadInput (Some UnknownWord) 1
+    ∷ refuses BadCondition (Some (OtherValues 17)) 1
+    ∷ refuses BadInput (Some (OtherValues 4)) 1
     ∷ accepts full_moon
     ∷ accepts full_moon
     ∷ accepts element_sets
@@ -204,23 +210,23 @@ pub worked :
     ∷ accepts (with_sun (arc 0 1296000) (arc 0 108000))
     ∷ accepts (with_sun (arc 0 108000) (arc 0 108000))
     ∷ accepts (with_elements (numbers 541065232) not_asked not_asked not_asked)
-    ∷ refuses 6 (other_values 2) 1
-    ∷ refuses 6 (other_values 2) 1
-    ∷ refuses 3 (other_values 2) 1
-    ∷ refuses 3 (other_values 2) 1
-    ∷ refuses 3 (other_values 3) 1
-    ∷ refuses 6 (other_values 6) 1
-    ∷ refuses 6 (other_values 6) 1
-    ∷ refuses 3 (other_values 6) 1
-    ∷ refuses 3 (other_values 6) 1
-    ∷ refuses 3 (other_values 6) 1
+    ∷ refuses BadCondition (Some (OtherValues 2)) 1
+    ∷ refuses BadCondition (Some (OtherValues 2)) 1
+    ∷ refuses BadInput (Some (OtherValues 2)) 1
+    ∷ refuses BadInput (Some (OtherValues 2)) 1
+    ∷ refuses BadInput (Some (OtherValues 3)) 1
+    ∷ refuses BadCondition (Some (OtherValues 6)) 1
+    ∷ refuses BadCondition (Some (OtherValues 6)) 1
+    ∷ refuses BadInput (Some (OtherValues 6)) 1
+    ∷ refuses BadInput (Some (OtherValues 6)) 1
+    ∷ refuses BadInput (Some (OtherValues 6)) 1
     ∷ prints Names
     ∷ prints Csv
-    ∷ refuses 3 (other_values 23) 1
-    ∷ refuses 3 (other_values 23) 1
-    ∷ refuses 3 (other_values 23) 1
-    ∷ refuses 3 repeated_word 2
-    ∷ refuses 6 (other_values 4) 2
+    ∷ refuses BadInput (Some (OtherValues 23)) 1
+    ∷ refuses BadInput (Some (OtherValues 23)) 1
+    ∷ refuses BadInput (Some (OtherValues 23)) 1
+    ∷ refuses BadInput (Some RepeatedWord) 2
+    ∷ refuses BadCondition (Some (OtherValues 4)) 2
     ∷ []
-unfolding is_separator run_length up_to after_first trimmed after_words in_front pieces same_bytes behind_mark small_byte small_from unmarked place_in is_digit all_digits with_digit value_of is_number number_read three_read two_read degrees_read sexagesimal_read number_or angle_read day_read name_read elapsed_in half_read half_named name_value value_read in_set with_weekday has_number with_number in_numbers with_number_read with_value set_read set_of none_read is_edition numbers_in_range weekdays_in_range arc_in_range body_arcs_in_range arcs_in_range true_arcs_in_range elements_in_range conditions_in_range refusal_of is_element has_arcs with_condition rank_of ranks_before first_refusal print_read with_print first_value second_value numbers_read arc_read width_to to_arc named_arc arc_in arc_words second_arc_in arcs_read arcs_in most_values element_of values_read refused_as condition_read words_read line_read first_fault with_line with_lines page_answer page_read
+unfolding is_separator run_length up_to after_first trimmed after_words in_front pieces same_bytes behind_mark small_byte small_from unmarked place_in is_digit all_digits with_digit value_of is_number number_read three_read two_read degrees_read sexagesimal_read number_or angle_read day_read name_read elapsed_in half_read half_named name_value value_read in_set with_weekday has_number with_number in_numbers with_number_read with_value set_read set_of none_read is_edition numbers_in_range weekdays_in_range arc_in_range body_arcs_in_range arcs_in_range true_arcs_in_range elements_in_range conditions_in_range check_of answer_over is_element has_arcs with_condition rank_of ranks_before first_refusal print_read with_print first_value second_value numbers_read arc_read width_to to_arc named_arc arc_in arc_words second_arc_in arcs_read arcs_in most_values element_of values_read refused_as condition_read words_read line_read first_fault with_line with_lines page_answer page_read both_read alone_read with_keyword
 worked = refl

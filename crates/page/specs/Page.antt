@@ -1,9 +1,10 @@
 -- The grammar of a page: what a line means, and what the lines mean together.
 -- Assumes nothing.
-use Rattle.std.specs.Prelude.{Bool, true, false, cond, not, ◌&&◌, ◌||◌, List, [], ◌∷◌, ℕ, suc, ◌+◌, ◌-◌, ◌*◌, eqb, leb, ltb, length, get_or, set, replicate}
-use Rattle.days.specs.declared.NumberAnswer.{NumberAnswer}
-use Rattle.days.specs.Days.{last_day, the_number, no_number}
-use Rattle.days.specs.Refusals.{accepted, no_such_date, out_of_range, bad_input, last_before_first, bad_condition, bad_edition}
+use Rattle.std.specs.Prelude.{Bool, true, false, cond, not, ◌&&◌, ◌||◌, List, [], ◌∷◌, ℕ, suc, ◌+◌, ◌-◌, ◌*◌, eqb, leb, ltb, length, get_or, set, replicate, Option, Some, None, is_some, Result, Ok, Err, ⊤, ◌<◌}
+use Rattle.days.specs.declared.refusal.Refusal.{Refusal}
+use Rattle.days.specs.declared.refusal.Refusal.TheVariants.{BadInput}
+use Rattle.days.specs.Days.{last_day}
+use Rattle.days.specs.Refusals.{no_such_date, out_of_range, bad_input, last_before_first, bad_condition, bad_edition, refusal_number, and_then}
 use Rattle.longitudes.specs.Longitudes.{circle}
 use Rattle.names.specs.declared.Kind.{Kind}
 use Rattle.names.specs.declared.Kind.TheVariants.{Tithi, Nakshatra, Yoga, Karana, Sign, Weekday}
@@ -11,22 +12,25 @@ use Rattle.names.specs.declared.Print.{Print}
 use Rattle.names.specs.declared.Print.TheVariants.{Numbers, Names, Csv}
 use Rattle.names.specs.Names.{name_read}
 use Rattle.panchanga.specs.TrueLongitudes.{first_edition}
+use Rattle.query.specs.declared.Arc.{Arc}
 use Rattle.query.specs.declared.Asked.{Asked}
 use Rattle.query.specs.declared.Query.{Query}
 use Rattle.query.specs.Conditions.{not_asked, no_weekdays, no_arc, no_arcs}
-use Rattle.query.specs.Query.{refusal_of}
+use Rattle.query.specs.Query.{check_of}
 use Rattle.text.specs.Ascii.{ascii}
 use Rattle.text.specs.Decimal.{number_read}
 use Rattle.text.specs.Lines.{newline}
 use Rattle.page.specs.declared.Values.{Values}
-use Rattle.page.specs.declared.ArcRead.{ArcRead}
 use Rattle.page.specs.declared.LineRead.{LineRead}
+use Rattle.page.specs.declared.LineRead.TheVariants.{Blank, Malformed, Condition}
+use Rattle.page.specs.declared.Reason.{Reason}
+use Rattle.page.specs.declared.Reason.TheVariants.{UnknownWord, BadValue, RepeatedWord, NotEnded, OtherValues}
 use Rattle.page.specs.declared.Fault.{Fault}
 use Rattle.page.specs.declared.Page.{Page}
 use Rattle.page.specs.declared.PageRead.{PageRead}
 use Rattle.words.specs.Words.{hash, up_to, first_word, after_word, after_words, pieces, unmarked, place_in}
 use Rattle.page.specs.Names.{keywords, print_names}
-use Rattle.values.specs.Values.{is_read, angle_read, day_read, most_weekdays, most_numbers, named_set_read, none_read}
+use Rattle.values.specs.Values.{angle_read, day_read, most_weekdays, most_numbers, named_set_read, none_read}
 use Rattle.zodiac.specs.Zodiac.{sign_seconds}
 
 -- the keywords, by their places among `keywords`; from `arc_keywords` on those of the nine bodies' arcs, and from
@@ -97,10 +101,6 @@ only_span edition first last =
 abbrev pub every_day : Query
 every_day = only_span first_edition 0 last_day
 
--- the values of a refused line, and those of a line without any
-abbrev pub no_values : ℕ → Values
-no_values refusal = record { refusal = refusal; first = 0; second = 0; arcs = no_arcs }
-
 -- the condition of a field, where k is the field's own keyword
 abbrev pub own_asked : ℕ → ℕ → ℕ → Asked → Asked
 own_asked own k a old = cond (eqb k own) (record { given = true; set = a }) old
@@ -141,36 +141,46 @@ first_refusal r t = cond (ranks_before t r) t r
 abbrev pub print_of : ℕ → Print
 print_of n = cond (eqb n 0) Names Csv
 
-unfoldable pub print_read : List ℕ → NumberAnswer
-print_read w = cond (ltb (place_in print_names w) 2) (the_number (place_in print_names w)) (no_number bad_input)
+unfoldable pub print_read : List ℕ → Result ℕ Refusal
+print_read w = cond (ltb (place_in print_names w) 2) (Ok (place_in print_names w)) (Err BadInput)
 
 -- how a page's days are printed, with the values of keyword k
 unfoldable pub with_print : Print → ℕ → Values → Print
 with_print p k v = cond (eqb k print_keyword) (print_of v.first) p
 
 -- a span has two days, `print` one word, and an edition one number
-unfoldable pub first_value : ℕ → List ℕ → NumberAnswer
+unfoldable pub first_value : ℕ → List ℕ → Result ℕ Refusal
 first_value k w = cond (eqb k span_keyword) (day_read w) (cond (eqb k print_keyword) (print_read w) (number_read w))
 
-unfoldable pub second_value : ℕ → List ℕ → NumberAnswer
+unfoldable pub second_value : ℕ → List ℕ → Result ℕ Refusal
 second_value k w = cond (eqb k span_keyword) (day_read w) (none_read w)
 
-unfoldable pub numbers_read : NumberAnswer → NumberAnswer → Values
-numbers_read a b =
-    cond (eqb (first_refusal a.refusal b.refusal) accepted)
-    (record { refusal = accepted; first = a.number; second = b.number; arcs = no_arcs })
-    (no_values (first_refusal a.refusal b.refusal))
+-- both values, or of their refusals the first in that order
+unfoldable pub both_read : Result ℕ Refusal → Result ℕ Refusal → Result (ℕ × ℕ) Refusal
+both_read (Ok a) (Ok b) = Ok (a, b)
+both_read (Ok a) (Err t) = Err t
+both_read (Err r) (Ok b) = Err r
+both_read (Err r) (Err t) = Err (cond (ranks_before (refusal_number t) (refusal_number r)) t r)
 
--- an arc of two words, its start and its width
-unfoldable pub arc_read : List ℕ → List ℕ → ArcRead
-arc_read start width =
-    cond (is_read (angle_read start) && is_read (angle_read width))
-    (record { read = true; arc = record { given = true; start = (angle_read start).number; width = (angle_read width).number } })
-    (record { read = false; arc = no_arc })
+-- the values that are two numbers
+abbrev pub number_values : ℕ × ℕ → Values
+number_values n = record { first = n.0; second = n.1; arcs = no_arcs }
+
+unfoldable pub numbers_read : Result ℕ Refusal → Result ℕ Refusal → Result Values Refusal
+numbers_read a b = and_then (both_read a b) (λ n. Ok (number_values n))
+
+-- an arc of two angles that are read, its start and what its width is by both
+abbrev pub arc_of : (ℕ → ℕ → ℕ) → Result ℕ Refusal → Result ℕ Refusal → Option Arc
+arc_of width (Ok a) (Ok b) = Some (record { given = true; start = a; width = width a b })
+arc_of width (Ok a) (Err _) = None
+arc_of width (Err _) b = None
+
+unfoldable pub arc_read : List ℕ → List ℕ → Option Arc
+arc_read start width = arc_of (λ a b. b) (angle_read start) (angle_read width)
 
 -- the arc of a sign
-abbrev pub sign_arc : ℕ → ArcRead
-sign_arc n = record { read = true; arc = record { given = true; start = sign_seconds * n; width = sign_seconds } }
+abbrev pub sign_arc : ℕ → Arc
+sign_arc n = record { given = true; start = sign_seconds * n; width = sign_seconds }
 
 -- the width of an arc by its end, which is not in it; where the end is not above the start, it lies past 0. A start
 -- from a circle on, or an end past it, has no such width, nor has an end at the start
@@ -178,43 +188,46 @@ unfoldable pub width_to : ℕ → ℕ → ℕ
 width_to start end =
     cond (leb start end) (cond (leb end circle) (end - start) 0) (cond (ltb start circle) (end + circle - start) 0)
 
-unfoldable pub to_arc : NumberAnswer → NumberAnswer → ArcRead
-to_arc start end =
-    cond (is_read start && is_read end)
-    (record { read = true; arc = record { given = true; start = start.number; width = width_to start.number end.number } })
-    (record { read = false; arc = no_arc })
+unfoldable pub to_arc : Result ℕ Refusal → Result ℕ Refusal → Option Arc
+to_arc start end = arc_of width_to start end
 
 abbrev pub is_to : List ℕ → Bool
 is_to w = eqb (place_in (ascii "to" ∷ []) w) 0
 
 -- an arc in other words at the front of a text: a sign, or a start, `to` and an end
-unfoldable pub named_arc : List ℕ → ArcRead
+unfoldable pub named_arc : List ℕ → Option Arc
 named_arc t =
-    cond (is_read (name_read Sign (first_word t))) (sign_arc (name_read Sign (first_word t)).number)
-    (cond (is_to (first_word (after_word t))) (to_arc (angle_read (first_word t)) (angle_read (first_word (after_words 2 t)))) (record { read = false; arc = no_arc }))
+    elim (name_read Sign (first_word t)) [
+      | Ok n ↦ Some (sign_arc n)
+      | Err _ ↦ cond (is_to (first_word (after_word t))) (to_arc (angle_read (first_word t)) (angle_read (first_word (after_words 2 t)))) None
+    ]
+
+-- the former, or else the latter
+abbrev pub or_else : Option Arc → Option Arc → Option Arc
+or_else (Some a) b = Some a
+or_else None b = b
 
 -- the arc at the front of a text, and how many words it is
-unfoldable pub arc_in : List ℕ → ArcRead
-arc_in t =
-    let two : ArcRead = arc_read (first_word t) (first_word (after_word t)) in
-    cond two.read two (named_arc t)
+unfoldable pub arc_in : List ℕ → Option Arc
+arc_in t = or_else (arc_read (first_word t) (first_word (after_word t))) (named_arc t)
 
 unfoldable pub arc_words : List ℕ → ℕ
 arc_words t =
-    cond (arc_read (first_word t) (first_word (after_word t))).read 2 (cond (is_read (name_read Sign (first_word t))) 1 3)
+    cond (is_some (arc_read (first_word t) (first_word (after_word t)))) 2
+    (elim (name_read Sign (first_word t)) [ Ok _ ↦ 1 | Err _ ↦ 3 ])
 
 -- a second arc may be missing
-unfoldable pub second_arc_in : List ℕ → ArcRead
-second_arc_in t = cond (eqb (length (first_word t)) 0) (record { read = true; arc = no_arc }) (arc_in t)
+unfoldable pub second_arc_in : List ℕ → Option Arc
+second_arc_in t = cond (eqb (length (first_word t)) 0) (Some no_arc) (arc_in t)
 
 -- both arcs, behind which no word may follow
-unfoldable pub arcs_read : ArcRead → ArcRead → List ℕ → Values
-arcs_read a b left =
-    cond (a.read && (b.read && eqb (length left) 0))
-    (record { refusal = accepted; first = 0; second = 0; arcs = record { first = a.arc; second = b.arc } })
-    (no_values bad_input)
+unfoldable pub arcs_read : Option Arc → Option Arc → List ℕ → Result Values Refusal
+arcs_read (Some a) (Some b) left =
+    cond (eqb (length left) 0) (Ok (record { first = 0; second = 0; arcs = record { first = a; second = b } })) (Err BadInput)
+arcs_read (Some _) None left = Err BadInput
+arcs_read None b left = Err BadInput
 
-unfoldable pub arcs_in : List ℕ → Values
+unfoldable pub arcs_in : List ℕ → Result Values Refusal
 arcs_in t =
     let more : List ℕ = after_words (arc_words t) t in
     arcs_read (arc_in t) (second_arc_in more) (first_word (after_words (arc_words more) more))
@@ -226,10 +239,10 @@ most_values k =
     cond (eqb k weekday_keyword) most_weekdays (cond (is_element k) (2 * most_numbers) (cond (has_arcs k) 6 2))
 
 -- the values of keyword k in the text behind it: a set, arcs, or two numbers
-unfoldable pub values_read : ℕ → List ℕ → Values
+unfoldable pub values_read : ℕ → List ℕ → Result Values Refusal
 values_read k t =
-    cond (eqb k weekday_keyword) (numbers_read (named_set_read Weekday t) (the_number 0))
-    (cond (is_element k) (numbers_read (named_set_read (element_of k) t) (the_number 0))
+    cond (eqb k weekday_keyword) (numbers_read (named_set_read Weekday t) (Ok 0))
+    (cond (is_element k) (numbers_read (named_set_read (element_of k) t) (Ok 0))
     (cond (has_arcs k) (arcs_in t) (numbers_read (first_value k (first_word t)) (second_value k (first_word (after_word t))))))
 
 -- why a line is refused, beside the refusal's number: no such keyword; a line that is to be a day, and is none; a
@@ -249,87 +262,133 @@ not_ended = 5
 abbrev pub other_values : ℕ → ℕ
 other_values k = 6 + k
 
-abbrev pub malformed_line : ℕ → LineRead
-malformed_line why = record { refusal = bad_input; reason = why; keyword = keyword_count; values = no_values accepted }
+abbrev pub reason_number : Reason → ℕ
+reason_number UnknownWord = unknown_word
+reason_number BadValue = bad_value
+reason_number RepeatedWord = repeated_word
+reason_number NotEnded = not_ended
+reason_number (OtherValues k) = other_values k
+
+abbrev pub reason_or_zero : Option Reason → ℕ
+reason_or_zero (Some why) = reason_number why
+reason_or_zero None = 0
+
+-- of a fault: the number of its reason, or 0
+abbrev pub fault_reason : Fault → ℕ
+fault_reason f = reason_or_zero f.reason
+
+abbrev pub malformed_line : Reason → LineRead
+malformed_line why = Malformed why
 
 -- a line without a word
 abbrev pub blank_line : LineRead
-blank_line = record { refusal = accepted; reason = 0; keyword = keyword_count; values = no_values accepted }
+blank_line = Blank
 
--- the condition of keyword k with its values, and a refusal of it, which has a reason where they are out of range
-unfoldable pub refused_as : ℕ → Values → ℕ → LineRead
-refused_as k v r = record { refusal = r; reason = cond (eqb r bad_condition) (other_values k) 0; keyword = k; values = v }
+-- the fault of the nth line, whose condition of keyword k is refused, with a reason where its values are out of range
+unfoldable pub refused_as : ℕ → Refusal → ℕ → Fault
+refused_as k r n =
+    record { refusal = r; reason = cond (eqb (refusal_number r) bad_condition) (Some (OtherValues k)) None; line = n }
+
+-- values, refused as the query with their condition alone
+unfoldable pub alone_read : ℕ → Values → Result Values Refusal
+alone_read k v = and_then (check_of (with_condition every_day k v)) (λ _. Ok v)
 
 -- the condition of keyword k with its values: refused as its dates are, or as the query with this condition alone
-unfoldable pub condition_read : ℕ → Values → LineRead
-condition_read k v =
-    cond (eqb v.refusal bad_input) (malformed_line (other_values k))
-    (refused_as k v (cond (eqb v.refusal accepted) (refusal_of (with_condition every_day k v)) v.refusal))
+unfoldable pub condition_read : ℕ → Result Values Refusal → LineRead
+condition_read k (Ok v) = Condition k (alone_read k v)
+condition_read k (Err r) = cond (eqb (refusal_number r) bad_input) (malformed_line (OtherValues k)) (Condition k (Err r))
 
 -- a line's first word and the text behind it
 unfoldable pub words_read : List ℕ → List ℕ → LineRead
 words_read name behind =
     cond (eqb (length name) 0) blank_line
     (let k = place_in keywords name in
-    cond (leb keyword_count k) (malformed_line unknown_word)
-    (cond (eqb (length (first_word (after_words (most_values k) behind))) 0) (condition_read k (values_read k behind)) (malformed_line (other_values k))))
+    cond (leb keyword_count k) (malformed_line UnknownWord)
+    (cond (eqb (length (first_word (after_words (most_values k) behind))) 0) (condition_read k (values_read k behind)) (malformed_line (OtherValues k))))
 
 -- WHAT A LINE MEANS; a `#` starts a comment
 unfoldable pub line_read : List ℕ → LineRead
 line_read l = words_read (first_word (up_to hash l)) (after_word (up_to hash l))
 
+-- the two numbers of a line, which a line without a word has none of
+abbrev pub line_numbers : LineRead → Result (ℕ × ℕ) Refusal
+line_numbers Blank = Ok (0, 0)
+line_numbers (Malformed _) = Err BadInput
+line_numbers (Condition _ v) = and_then v (λ (w : Values). Ok (w.first, w.second))
+
 -- of two faults the one whose refusal is first; of two with one refusal the former
 unfoldable pub first_fault : Fault → Fault → Fault
-first_fault f g = cond (ranks_before g.refusal f.refusal) g f
+first_fault f g = cond (ranks_before (refusal_number g.refusal) (refusal_number f.refusal)) g f
+
+-- of a fault that there may be and one that there is
+abbrev pub fault_with : Option Fault → Fault → Fault
+fault_with (Some f) g = first_fault f g
+fault_with None g = g
 
 abbrev pub with_fault : Page → Fault → Page
-with_fault p f = record { fault = first_fault p.fault f; present = p.present; query = p.query; print = p.print }
+with_fault p f = record { fault = Some (fault_with p.fault f); present = p.present; query = p.query; print = p.print }
 
--- the page with one more line, the nth: each keyword once. A line that repeats one is malformed, unless it has a
--- refusal that comes first
+-- the fault of a malformed nth line
+abbrev pub malformed_at : Reason → ℕ → Fault
+malformed_at why n = record { refusal = BadInput; reason = Some why; line = n }
+
+-- the page with keyword k in its nth line, which had none before; and with a keyword that it had, which makes a line
+-- malformed unless it has a refusal that comes first
+abbrev pub with_new : Page → ℕ → ℕ → Result Values Refusal → Page
+with_new p n k (Ok v) =
+    record {
+      fault = p.fault;
+      present = set p.present k true;
+      query = with_condition p.query k v;
+      print = with_print p.print k v;
+    }
+with_new p n k (Err r) =
+    with_fault (record { fault = p.fault; present = set p.present k true; query = p.query; print = p.print }) (refused_as k r n)
+
+abbrev pub repeated_fault : ℕ → ℕ → Result Values Refusal → Fault
+repeated_fault n k (Ok v) = malformed_at RepeatedWord n
+repeated_fault n k (Err r) = first_fault (malformed_at RepeatedWord n) (refused_as k r n)
+
+-- each keyword once
+unfoldable pub with_keyword : Page → ℕ → ℕ → Result Values Refusal → Page
+with_keyword p n k v =
+    cond (get_or p.present k false) (with_fault p (repeated_fault n k v)) (with_new p n k v)
+
+-- a line's keyword, if it has one, is among the keywords
+abbrev pub HasKeyword : LineRead → Type 0
+HasKeyword Blank = ⊤
+HasKeyword (Malformed _) = ⊤
+HasKeyword (Condition k _) = k < keyword_count
+
+-- the page with one more line, the nth
 unfoldable pub with_line : Page → ℕ → LineRead → Page
-with_line p n l =
-    cond (leb keyword_count l.keyword) (with_fault p (record { refusal = l.refusal; reason = l.reason; line = n }))
-    (cond (get_or p.present l.keyword false)
-    (with_fault p (first_fault (record { refusal = bad_input; reason = repeated_word; line = n }) (record { refusal = l.refusal; reason = l.reason; line = n })))
-    (record {
-      fault = first_fault p.fault (record { refusal = l.refusal; reason = l.reason; line = n });
-      present = set p.present l.keyword true;
-      query = with_condition p.query l.keyword l.values;
-      print = with_print p.print l.keyword l.values;
-    }))
+with_line p n Blank = p
+with_line p n (Malformed why) = with_fault p (malformed_at why n)
+with_line p n (Condition k v) = with_keyword p n k v
 
 -- the page with the lines from the nth on; nothing may follow the last newline
 unfoldable pub with_lines : Page → ℕ → List (List ℕ) → Page
 with_lines p n [] = p
 with_lines p n (l ∷ []) =
-    cond (eqb (length l) 0) p (with_fault p (record { refusal = bad_input; reason = not_ended; line = n }))
+    cond (eqb (length l) 0) p (with_fault p (malformed_at NotEnded n))
 with_lines p n (l ∷ m ∷ ms) = with_lines (with_line p n (line_read l)) (suc n) (m ∷ ms)
 
-abbrev pub no_fault : Fault
-no_fault = record { refusal = accepted; reason = 0; line = 0 }
-
 abbrev pub empty_page : Page
-empty_page = record { fault = no_fault; present = replicate keyword_count false; query = every_day; print = Numbers }
+empty_page = record { fault = None; present = replicate keyword_count false; query = every_day; print = Numbers }
+
+abbrev pub answer_unless : Option Fault → PageRead → Result PageRead Fault
+answer_unless None read = Ok read
+answer_unless (Some f) read = Err f
 
 -- the query, and how its days are printed; or the first refusal in that order, its reason and the first line that has
--- it, all zeros, and numbers
-unfoldable pub page_answer : Page → PageRead
-page_answer p =
-    cond (eqb p.fault.refusal accepted)
-    (record { refusal = accepted; reason = 0; line = 0; query = p.query; print = p.print })
-    (record {
-      refusal = p.fault.refusal;
-      reason = p.fault.reason;
-      line = p.fault.line;
-      query = only_span 0 0 0;
-      print = Numbers;
-    })
+-- it
+unfoldable pub page_answer : Page → Result PageRead Fault
+page_answer p = answer_unless p.fault (record { query = p.query; print = p.print })
 
 -- the lines of a text, which may have a byte order mark in front
 abbrev pub lines_of : List ℕ → List (List ℕ)
 lines_of text = pieces newline (unmarked text)
 
--- WHAT A TEXT MEANS: the query, which is paper 01's reading, or a refusal
-unfoldable pub page_read : List ℕ → PageRead
+-- WHAT A TEXT MEANS: the query, which is paper 01's reading, or a fault
+unfoldable pub page_read : List ℕ → Result PageRead Fault
 page_read text = page_answer (with_lines empty_page 1 (lines_of text))

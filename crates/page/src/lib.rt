@@ -3,10 +3,12 @@
 
 ghost use Rattle.std.specs.Prelude.{◌≡◌, ◌<◌};
 ghost use Rattle.words.specs.Words.{place_in};
+ghost use Rattle.page.specs.declared.Reason.TheVariants.{OtherValues};
 ghost use Rattle.page.specs.Names.{keywords};
-ghost use Rattle.page.specs.Page.{keyword_count, is_element, element_of, only_span, no_values, with_condition, rank_of, ranks_before, first_refusal, first_value, second_value, numbers_read, print_of, with_print, print_read, has_arcs, arc_read, sign_arc, width_to, to_arc, is_to, named_arc, arc_in, arc_words, second_arc_in, arcs_read, arcs_in, most_values, values_read, other_values, malformed_line, refused_as, condition_read, line_read, first_fault, with_fault, with_line, empty_page, page_answer, page_read};
+ghost use Rattle.page.specs.Page.{keyword_count, reason_number, fault_reason, is_element, element_of, only_span, with_condition, rank_of, ranks_before, first_refusal, both_read, numbers_read, print_of, with_print, print_read, has_arcs, arc_read, sign_arc, width_to, to_arc, is_to, named_arc, arc_in, arc_words, second_arc_in, arcs_read, arcs_in, most_values, values_read, alone_read, refused_as, condition_read, line_read, HasKeyword, first_fault, with_fault, with_keyword, with_line, empty_page, page_answer, page_read};
 
-use days::{Day, NumberAnswer, refusal};
+use days::Day;
+use days::refusal::{self, Refusal};
 use longitudes::CIRCLE;
 use names::{Kind, Print, number_of};
 use panchanga::FIRST_EDITION;
@@ -26,6 +28,8 @@ const KARANA_NAME: [u8; 6] = *b"karana";
 
 const PRINT_NAME: [u8; 5] = *b"print";
 
+// Kept: `page::keyword_of` hands out a place among these words, which is also where the names of the bodies and of the
+// true places stand; the docs name these constants.
 pub const SPAN: usize = 0;
 
 pub const WEEKDAY: usize = 1;
@@ -52,8 +56,34 @@ pub const PRINT: usize = 23;
 // How many keywords there are.
 pub const KEYWORD_COUNT: usize = 24;
 
-// Why a line is refused, beside the refusal's number; from OTHER_VALUES on, by the keyword's place, that its values are
-// not those that it takes.
+// Why a line is refused, beside the refusal.
+#[derive(Clone, Copy, Debug, PartialEq, Eq)]
+pub enum Reason {
+    UnknownWord,
+    BadValue,
+    RepeatedWord,
+    NotEnded,
+    // The values are not those that this keyword takes.
+    OtherValues(u8),
+}
+
+impl Reason {
+    // Its number, which messages are told by: from OTHER_VALUES on by the keyword's place.
+    pub fn number(self) -> u32
+        ensures { result ≡ reason_number self }
+    {
+        match self {
+            Reason::UnknownWord => UNKNOWN_WORD,
+            Reason::BadValue => BAD_VALUE,
+            Reason::RepeatedWord => REPEATED_WORD,
+            Reason::NotEnded => NOT_ENDED,
+            Reason::OtherValues(keyword) => OTHER_VALUES + keyword as u32,
+        }
+    }
+}
+
+// The reasons by number.
+// Kept: `messages::page_fault` takes any number, and an enum in place of it would ask more of callers.
 pub const UNKNOWN_WORD: u32 = 1;
 
 pub const BAD_VALUE: u32 = 3;
@@ -73,72 +103,58 @@ const PRINTS: [u8; 9] = *b"names csv";
 // The word between the start and the end of an arc.
 const TO: [u8; 2] = *b"to";
 
-// A page that has been read: the refusal's number, or 0, why a line is refused, the line at fault, counted from 1, the
-// query, and how its days are printed. A refusal has a query of all zeros, and numbers.
+// A page that has been read: its query, and how its days are printed.
 #[derive(Clone, Copy)]
 pub struct PageRead {
-    pub refusal: u32,
-    pub reason: u32,
-    pub line: usize,
     pub query: Query,
     pub print: Print,
 }
 
-// The values of a line that have been read: two numbers, of which a set of weekdays or of numbers is the first, or a
-// body's arcs. A refusal has all zeros.
+// Why a page is refused, and the line that it is refused for, counted from 1.
+#[derive(Clone, Copy)]
+pub struct Fault {
+    pub refusal: Refusal,
+    pub reason: Option<Reason>,
+    pub line: usize,
+}
+
+impl Fault {
+    // The number of its reason, or 0.
+    pub fn reason_number(self) -> u32
+        ensures { result ≡ fault_reason self }
+    {
+        match self.reason {
+            Some(reason) => reason.number(),
+            None => 0,
+        }
+    }
+}
+
+// The values of a line: two numbers, of which a set of weekdays or of numbers is the first, or a body's arcs.
 #[derive(Clone, Copy)]
 struct Values {
-    refusal: u32,
     first: u32,
     second: u32,
     arcs: BodyArcs,
 }
 
-// An arc that has been read, or was not to be read.
+// A line that has been read: one without a word, one that is no condition, and a keyword with its values or their
+// refusal.
 #[derive(Clone, Copy)]
-struct ArcRead {
-    read: bool,
-    arc: Arc,
+enum LineRead {
+    Blank,
+    Malformed(Reason),
+    Condition(usize, Result<Values, Refusal>),
 }
 
-const NOT_READ: ArcRead = ArcRead {
-    read: false,
-    arc: Arc::NONE,
-};
-
-// A line that has been read: its keyword and its values. A line without a keyword has KEYWORD_COUNT.
-#[derive(Clone, Copy)]
-struct LineRead {
-    refusal: u32,
-    reason: u32,
-    keyword: usize,
-    values: Values,
-}
-
-// A refusal, and the line that it comes from.
-#[derive(Clone, Copy)]
-struct Fault {
-    refusal: u32,
-    reason: u32,
-    line: usize,
-}
-
-// What the lines so far mean, and which keywords they have.
+// What the lines so far mean, their first fault, and which keywords they have.
 #[derive(Clone, Copy)]
 struct Page {
-    fault: Fault,
+    fault: Option<Fault>,
     present: [bool; KEYWORD_COUNT],
     query: Query,
     print: Print,
 }
-
-// The values of a line that has none.
-const NO_VALUES: Values = Values {
-    refusal: refusal::NONE,
-    first: 0,
-    second: 0,
-    arcs: BodyArcs::NONE,
-};
 
 fn only_span(edition: u32, first: u32, last: u32) -> Query
     ensures { result ≡ only_span edition first last }
@@ -157,19 +173,8 @@ fn only_span(edition: u32, first: u32, last: u32) -> Query
     }
 }
 
-impl Values {
-    fn refused(refusal: u32) -> Values
-        ensures { result ≡ no_values refusal }
-    {
-        Values {
-            refusal,
-            first: 0,
-            second: 0,
-            arcs: BodyArcs::NONE,
-        }
-    }
-}
-
+// `ARCS..KARANA` are the bodies' arcs, and behind the karana those of the true places.
+#[tactic(auto, unfolding(crate::specs::Page::with_condition))]
 fn with_condition(query: Query, keyword: usize, values: Values) -> Query
     requires { keyword < keyword_count }
     ensures { result ≡ with_condition query keyword values }
@@ -178,94 +183,83 @@ fn with_condition(query: Query, keyword: usize, values: Values) -> Query
     let set = values.first;
     let asked = Asked { given: true, set };
     let weekdays = Weekdays { given: true, set };
-    if keyword == SPAN {
-        query.first = values.first;
-        query.last = values.second;
-        return query;
-    }
-    if keyword == WEEKDAY {
-        query.weekdays = weekdays;
-        return query;
-    }
-    if keyword == TITHI {
-        query.tithi = asked;
-        return query;
-    }
-    if keyword == NAKSHATRA {
-        query.nakshatra = asked;
-        return query;
-    }
-    if keyword == YOGA {
-        query.yoga = asked;
-        return query;
-    }
-    if keyword == EDITION {
-        query.edition = values.first;
-        return query;
-    }
-    if keyword == KARANA {
-        query.karana = asked;
-        return query;
-    }
     let of_body = values.arcs;
-    if keyword < KARANA {
-        let body = keyword - ARCS;
-        let mut arcs = query.arcs;
-        arcs[body] = of_body;
-        query.arcs = arcs;
-        return query;
+    match keyword {
+        SPAN => Query {
+            first: values.first,
+            last: values.second,
+            ..query
+        },
+        WEEKDAY => Query { weekdays, ..query },
+        TITHI => Query {
+            tithi: asked,
+            ..query
+        },
+        NAKSHATRA => Query {
+            nakshatra: asked,
+            ..query
+        },
+        YOGA => Query {
+            yoga: asked,
+            ..query
+        },
+        EDITION => Query {
+            edition: values.first,
+            ..query
+        },
+        KARANA => Query {
+            karana: asked,
+            ..query
+        },
+        PRINT => query,
+        _ if keyword < KARANA => {
+            query.arcs[keyword - ARCS] = of_body;
+            query
+        }
+        _ => {
+            query.true_arcs[keyword - TRUE_ARCS] = of_body;
+            query
+        }
     }
-    if PRINT <= keyword {
-        return query;
-    }
-    let place = keyword - TRUE_ARCS;
-    let mut true_arcs = query.true_arcs;
-    true_arcs[place] = of_body;
-    query.true_arcs = true_arcs;
-    query
 }
 
 // What the place of a word among those that `print` takes means.
 fn print_of(place: u32) -> Print
     ensures { result ≡ print_of place }
 {
-    if place == 0 {
-        return Print::Names;
-    }
-    Print::Csv
+    if place == 0 { Print::Names } else { Print::Csv }
 }
 
+#[tactic(auto, unfolding(crate::specs::Page::with_print))]
 fn with_print(print: Print, keyword: usize, values: Values) -> Print
     ensures { result ≡ with_print print keyword values }
 {
     if keyword == PRINT {
-        return print_of(values.first);
+        print_of(values.first)
+    } else {
+        print
     }
-    print
 }
 
-// The order of refusals: the lower comes first.
+// The order of refusals, by their numbers: the lower comes first.
+// Kept: `page::ranks_before` and `first_refusal` take any number, and an enum in place of it would ask more of callers.
+#[tactic(auto, unfolding(crate::specs::Page::rank_of))]
 fn rank(number: u32) -> u32
     ensures { result ≡ rank_of number }
 {
-    if number == refusal::BAD_EDITION {
-        0
-    } else if number == refusal::BAD_INPUT {
-        1
-    } else if number == refusal::NO_SUCH_DATE {
-        2
-    } else if number == refusal::OUT_OF_RANGE {
-        3
-    } else if number == refusal::LAST_BEFORE_FIRST {
-        4
-    } else if number == refusal::BAD_CONDITION {
-        5
-    } else {
-        6
+    match number {
+        refusal::BAD_EDITION => 0,
+        refusal::BAD_INPUT => 1,
+        refusal::NO_SUCH_DATE => 2,
+        refusal::OUT_OF_RANGE => 3,
+        refusal::LAST_BEFORE_FIRST => 4,
+        refusal::BAD_CONDITION => 5,
+        _ => 6,
     }
 }
 
 // Whether one refusal comes before another in that order.
+#[tactic(auto, unfolding(crate::specs::Page::ranks_before))]
 pub fn ranks_before(one: u32, other: u32) -> bool
     ensures { result ≡ ranks_before one other }
 {
@@ -273,94 +267,78 @@ pub fn ranks_before(one: u32, other: u32) -> bool
 }
 
 // Of two refusals the first in that order.
+#[tactic(auto, unfolding(crate::specs::Page::first_refusal))]
 pub fn first_refusal(one: u32, other: u32) -> u32
     ensures { result ≡ first_refusal one other }
 {
     if ranks_before(other, one) { other } else { one }
 }
 
+// Two values that are read, or of their refusals the first in that order.
+#[tactic(auto, unfolding(crate::specs::Page::both_read))]
+pub fn both(
+    first: Result<u32, Refusal>,
+    second: Result<u32, Refusal>,
+) -> Result<(u32, u32), Refusal>
+    ensures { result ≡ both_read first second }
+{
+    match (first, second) {
+        (Ok(first), Ok(second)) => Ok((first, second)),
+        (Err(one), Err(other)) if ranks_before(other.number(), one.number()) => Err(other),
+        (Err(one), _) => Err(one),
+        (_, Err(other)) => Err(other),
+    }
+}
+
 // The place of a word among those that `print` takes.
-fn print_place(word: &[u8]) -> NumberAnswer
+fn print_place(word: &[u8]) -> Result<u32, Refusal>
     ensures { result ≡ print_read word.now }
 {
     let place = place_in(&PRINTS, word);
     if 2 <= place {
-        return NumberAnswer::refused(refusal::BAD_INPUT);
+        return Err(Refusal::BadInput);
     }
-    NumberAnswer::accepted(place as u32)
+    Ok(place as u32)
 }
 
-fn first_value(keyword: usize, word: &[u8]) -> NumberAnswer
-    ensures { result ≡ first_value keyword word.now }
-{
-    if keyword == SPAN {
-        return day(word);
-    }
-    if keyword == PRINT {
-        return print_place(word);
-    }
-    text::read_decimal(word)
-}
-
-fn second_value(keyword: usize, word: &[u8]) -> NumberAnswer
-    ensures { result ≡ second_value keyword word.now }
-{
-    if keyword == SPAN {
-        return day(word);
-    }
-    nothing(word)
-}
-
-fn numbers(first: NumberAnswer, second: NumberAnswer) -> Values
+#[tactic(auto, unfolding(crate::specs::Page::numbers_read))]
+fn numbers(first: Result<u32, Refusal>, second: Result<u32, Refusal>) -> Result<Values, Refusal>
     ensures { result ≡ numbers_read first second }
 {
-    let refused = first_refusal(first.refusal, second.refusal);
-    if refused != refusal::NONE {
-        return Values::refused(refused);
-    }
-    Values {
-        refusal: refusal::NONE,
-        first: first.number,
-        second: second.number,
+    let (first, second) = both(first, second)?;
+    Ok(Values {
+        first,
+        second,
         arcs: BodyArcs::NONE,
-    }
+    })
 }
 
-fn read_arc(start: &[u8], width: &[u8]) -> ArcRead
+#[tactic(auto, unfolding(crate::specs::Page::arc_read))]
+fn read_arc(start: &[u8], width: &[u8]) -> Option<Arc>
     ensures { result ≡ arc_read start.now width.now }
 {
-    let start = angle(start);
-    let width = angle(width);
-    if start.refusal == refusal::NONE {
-        if width.refusal == refusal::NONE {
-            return ArcRead {
-                read: true,
-                arc: Arc {
-                    given: true,
-                    start: start.number,
-                    width: width.number,
-                },
-            };
-        }
-    }
-    NOT_READ
+    let start = angle(start).ok()?;
+    let width = angle(width).ok()?;
+    Some(Arc {
+        given: true,
+        start,
+        width,
+    })
 }
 
-fn sign_arc(sign: u32) -> ArcRead
+fn sign_arc(sign: u32) -> Arc
     requires { sign < 12 }
     ensures { result ≡ sign_arc sign }
 {
-    ArcRead {
-        read: true,
-        arc: Arc {
-            given: true,
-            start: SIGN * sign,
-            width: SIGN,
-        },
+    Arc {
+        given: true,
+        start: SIGN * sign,
+        width: SIGN,
     }
 }
 
 // The width from a start to an end, which is not in the arc; 0 where there is none.
+#[tactic(auto, unfolding(crate::specs::Page::width_to))]
 pub fn width_to(start: u32, end: u32) -> u32
     ensures { result ≡ width_to start end }
 {
@@ -376,25 +354,17 @@ pub fn width_to(start: u32, end: u32) -> u32
     0
 }
 
-fn to_arc(start: NumberAnswer, end: NumberAnswer) -> ArcRead
+#[tactic(auto, unfolding(crate::specs::Page::to_arc))]
+fn to_arc(start: Result<u32, Refusal>, end: Result<u32, Refusal>) -> Option<Arc>
     ensures { result ≡ to_arc start end }
 {
-    if start.refusal != refusal::NONE {
-        return NOT_READ;
-    }
-    if end.refusal != refusal::NONE {
-        return NOT_READ;
-    }
-    let from = start.number;
-    let width = width_to(from, end.number);
-    ArcRead {
-        read: true,
-        arc: Arc {
-            given: true,
-            start: from,
-            width,
-        },
-    }
+    let start = start.ok()?;
+    let end = end.ok()?;
+    Some(Arc {
+        given: true,
+        start,
+        width: width_to(start, end),
+    })
 }
 
 // Whether a word stands between the start and the end of an arc.
@@ -405,88 +375,75 @@ pub fn is_to(word: &[u8]) -> bool
 }
 
 // A sign, or a start, `to` and an end, at the front of a text.
-fn named_arc(text: &[u8]) -> ArcRead
+#[tactic(auto, unfolding(crate::specs::Page::named_arc))]
+fn named_arc(text: &[u8]) -> Option<Arc>
     ensures { result ≡ named_arc text.now }
 {
     let first = first_word(text);
-    let sign = number_of(Kind::Sign, first);
-    if sign.refusal == refusal::NONE {
-        return sign_arc(sign.number);
+    if let Ok(sign) = number_of(Kind::Sign, first) {
+        return Some(sign_arc(sign));
     }
     if is_to(first_word(after_word(text))) {
         return to_arc(angle(first), angle(first_word(after_words(text, 2))));
     }
-    NOT_READ
+    None
 }
 
 // The arc at the front of a text: a start and a width, or in other words.
-fn arc_in(text: &[u8]) -> ArcRead
+#[tactic(auto, unfolding(crate::specs::Page::arc_in))]
+fn arc_in(text: &[u8]) -> Option<Arc>
     ensures { result ≡ arc_in text.now }
 {
-    let two = read_arc(first_word(text), first_word(after_word(text)));
-    if two.read {
-        return two;
+    match read_arc(first_word(text), first_word(after_word(text))) {
+        Some(arc) => Some(arc),
+        None => named_arc(text),
     }
-    named_arc(text)
 }
 
 // How many words that arc is.
+#[tactic(auto, unfolding(crate::specs::Page::arc_words))]
 pub fn arc_words(text: &[u8]) -> usize
     ensures { result ≡ arc_words text.now }
 {
     let first = first_word(text);
-    let two = read_arc(first, first_word(after_word(text)));
-    if two.read {
+    if let Some(_) = read_arc(first, first_word(after_word(text))) {
         return 2;
     }
-    let sign = number_of(Kind::Sign, first);
-    if sign.refusal == refusal::NONE {
+    if let Ok(_) = number_of(Kind::Sign, first) {
         return 1;
     }
     3
 }
 
 // A line may have no second arc.
-fn second_arc_in(text: &[u8]) -> ArcRead
+#[tactic(auto, unfolding(crate::specs::Page::second_arc_in))]
+fn second_arc_in(text: &[u8]) -> Option<Arc>
     ensures { result ≡ second_arc_in text.now }
 {
-    let word = first_word(text);
-    if word.len() == 0 {
-        return ArcRead {
-            read: true,
-            arc: Arc::NONE,
-        };
+    if first_word(text).is_empty() {
+        Some(Arc::NONE)
+    } else {
+        arc_in(text)
     }
-    arc_in(text)
 }
 
 // Both arcs, and the word behind them, which must be none.
-fn both_arcs(first: ArcRead, second: ArcRead, left: &[u8]) -> Values
+#[tactic(auto, unfolding(crate::specs::Page::arcs_read))]
+fn both_arcs(first: Option<Arc>, second: Option<Arc>, left: &[u8]) -> Result<Values, Refusal>
     ensures { result ≡ arcs_read first second left.now }
 {
-    if !first.read {
-        return Values::refused(refusal::BAD_INPUT);
-    }
-    if !second.read {
-        return Values::refused(refusal::BAD_INPUT);
-    }
-    if left.len() != 0 {
-        return Values::refused(refusal::BAD_INPUT);
-    }
-    let one = first.arc;
-    let other = second.arc;
-    Values {
-        refusal: refusal::NONE,
-        first: 0,
-        second: 0,
-        arcs: BodyArcs {
-            first: one,
-            second: other,
-        },
+    match (first, second) {
+        (Some(first), Some(second)) if left.is_empty() => Ok(Values {
+            first: 0,
+            second: 0,
+            arcs: BodyArcs { first, second },
+        }),
+        _ => Err(Refusal::BadInput),
     }
 }
 
-fn read_arcs(text: &[u8]) -> Values
+#[tactic(auto, unfolding(crate::specs::Page::arcs_in))]
+fn read_arcs(text: &[u8]) -> Result<Values, Refusal>
     ensures { result ≡ arcs_in text.now }
 {
     let first = arc_in(text);
@@ -497,48 +454,36 @@ fn read_arcs(text: &[u8]) -> Values
 }
 
 // Whether a keyword's values are a set of numbers.
+#[tactic(auto, unfolding(crate::specs::Page::is_element))]
 fn is_element(keyword: usize) -> bool
     ensures { result ≡ is_element keyword }
 {
-    if keyword == KARANA {
-        return true;
-    }
-    if keyword < TITHI {
-        return false;
-    }
-    keyword <= YOGA
+    keyword == KARANA || TITHI <= keyword && keyword <= YOGA
 }
 
 // What an element's keyword has names of.
+#[tactic(auto, unfolding(crate::specs::Page::element_of))]
 fn element_of(keyword: usize) -> Kind
     ensures { result ≡ element_of keyword }
 {
-    if keyword == TITHI {
-        return Kind::Tithi;
+    match keyword {
+        TITHI => Kind::Tithi,
+        NAKSHATRA => Kind::Nakshatra,
+        YOGA => Kind::Yoga,
+        _ => Kind::Karana,
     }
-    if keyword == NAKSHATRA {
-        return Kind::Nakshatra;
-    }
-    if keyword == YOGA {
-        return Kind::Yoga;
-    }
-    Kind::Karana
 }
 
 // Whether a keyword's values are arcs: a body's, or a true place's.
+#[tactic(auto, unfolding(crate::specs::Page::has_arcs))]
 pub fn has_arcs(keyword: usize) -> bool
     ensures { result ≡ has_arcs keyword }
 {
-    if keyword < ARCS {
-        return false;
-    }
-    if PRINT <= keyword {
-        return false;
-    }
-    keyword != KARANA
+    ARCS <= keyword && keyword < PRINT && keyword != KARANA
 }
 
 // The most words that a line may have behind its first: those of a set, two arcs of three, or two.
+#[tactic(auto, unfolding(crate::specs::Page::most_values))]
 fn most_values(keyword: usize) -> usize
     ensures { result ≡ most_values keyword }
 {
@@ -553,80 +498,74 @@ fn most_values(keyword: usize) -> usize
     }
 }
 
-fn read_values(keyword: usize, text: &[u8]) -> Values
+#[tactic(auto, unfolding(crate::specs::Page::values_read, crate::specs::Page::first_value, crate::specs::Page::second_value))]
+fn read_values(keyword: usize, text: &[u8]) -> Result<Values, Refusal>
     ensures { result ≡ values_read keyword text.now }
 {
     if keyword == WEEKDAY {
-        return numbers(named_set(Kind::Weekday, text), NumberAnswer::accepted(0));
+        return numbers(named_set(Kind::Weekday, text), Ok(0));
     }
     if is_element(keyword) {
-        return numbers(
-            named_set(element_of(keyword), text),
-            NumberAnswer::accepted(0),
-        );
+        return numbers(named_set(element_of(keyword), text), Ok(0));
     }
     if has_arcs(keyword) {
         return read_arcs(text);
     }
     let first = first_word(text);
     let second = first_word(after_word(text));
-    numbers(first_value(keyword, first), second_value(keyword, second))
+    match keyword {
+        SPAN => numbers(day(first), day(second)),
+        PRINT => numbers(print_place(first), nothing(second)),
+        _ => numbers(text::read_decimal(first), nothing(second)),
+    }
 }
 
 // The reason of a line whose values are not those that its keyword takes.
-fn other_values(keyword: usize) -> u32
+fn other_values(keyword: usize) -> Reason
     requires { keyword < keyword_count }
-    ensures { result ≡ other_values keyword }
+    ensures { result ≡ OtherValues keyword }
 {
-    OTHER_VALUES + keyword as u32
+    Reason::OtherValues(keyword as u8)
 }
 
-fn malformed(reason: u32) -> LineRead
-    ensures { result ≡ malformed_line reason }
+// The refusal of a condition, which has a reason where its values are out of range.
+#[tactic(auto, unfolding(crate::specs::Page::refused_as))]
+fn refused_as(keyword: usize, refusal: Refusal, line: usize) -> Fault
+    requires { keyword < keyword_count }
+    ensures { result ≡ refused_as keyword refusal line }
 {
-    LineRead {
-        refusal: refusal::BAD_INPUT,
+    let reason = match refusal {
+        Refusal::BadCondition => Some(other_values(keyword)),
+        _ => None,
+    };
+    Fault {
+        refusal,
         reason,
-        keyword: KEYWORD_COUNT,
-        values: NO_VALUES,
+        line,
     }
 }
 
-// A condition and a refusal of it, which has a reason where its values are out of range.
-fn refused_as(keyword: usize, values: Values, refused: u32) -> LineRead
+// Values, refused as the query with their condition alone.
+#[tactic(auto, unfolding(crate::specs::Page::alone_read))]
+fn alone(keyword: usize, values: Values) -> Result<Values, Refusal>
     requires { keyword < keyword_count }
-    ensures { result ≡ refused_as keyword values refused }
+    ensures { result ≡ alone_read keyword values }
 {
-    if refused == refusal::BAD_CONDITION {
-        return LineRead {
-            refusal: refused,
-            reason: other_values(keyword),
-            keyword,
-            values,
-        };
-    }
-    LineRead {
-        refusal: refused,
-        reason: 0,
-        keyword,
-        values,
-    }
+    let every = only_span(FIRST_EDITION, 0, Day::LAST);
+    with_condition(every, keyword, values).check()?;
+    Ok(values)
 }
 
-fn condition(keyword: usize, values: Values) -> LineRead
+#[tactic(auto, unfolding(crate::specs::Page::condition_read))]
+fn condition(keyword: usize, values: Result<Values, Refusal>) -> LineRead
     requires { keyword < keyword_count }
     ensures { result ≡ condition_read keyword values }
 {
-    if values.refusal == refusal::BAD_INPUT {
-        return malformed(other_values(keyword));
+    match values {
+        Ok(values) => LineRead::Condition(keyword, alone(keyword, values)),
+        Err(Refusal::BadInput) => LineRead::Malformed(other_values(keyword)),
+        Err(refusal) => LineRead::Condition(keyword, Err(refusal)),
     }
-    if values.refusal != refusal::NONE {
-        return refused_as(keyword, values, values.refusal);
-    }
-    let every = only_span(FIRST_EDITION, 0, Day::LAST);
-    let alone = with_condition(every, keyword, values);
-    let refused = alone.refusal();
-    refused_as(keyword, values, refused)
 }
 
 // A word's place among the keywords; KEYWORD_COUNT for a word that is none.
@@ -652,35 +591,33 @@ pub fn keyword_of(word: &[u8]) -> usize
     PRINT + place_in(&PRINT_NAME, word)
 }
 
+#[tactic(auto, unfolding(crate::specs::Page::line_read, crate::specs::Page::words_read))]
 fn read_line(line: &[u8]) -> LineRead
     ensures { result ≡ line_read line.now }
 {
     let body = up_to(line, b'#');
     let name = first_word(body);
-    if name.len() == 0 {
-        return LineRead {
-            refusal: refusal::NONE,
-            reason: 0,
-            keyword: KEYWORD_COUNT,
-            values: NO_VALUES,
-        };
+    if name.is_empty() {
+        return LineRead::Blank;
     }
     let keyword = keyword_of(name);
     if KEYWORD_COUNT <= keyword {
-        return malformed(UNKNOWN_WORD);
+        return LineRead::Malformed(Reason::UnknownWord);
     }
     let values = after_word(body);
     let more = first_word(after_words(values, most_values(keyword)));
-    if more.len() != 0 {
-        return malformed(other_values(keyword));
+    if !more.is_empty() {
+        return LineRead::Malformed(other_values(keyword));
     }
     condition(keyword, read_values(keyword, values))
 }
 
-fn first_fault(one: Fault, other: Fault) -> Fault
+// Of two faults the one whose refusal comes first in that order, of two alike the former.
+#[tactic(auto, unfolding(crate::specs::Page::first_fault))]
+pub fn first_fault(one: Fault, other: Fault) -> Fault
     ensures { result ≡ first_fault one other }
 {
-    if ranks_before(other.refusal, one.refusal) {
+    if ranks_before(other.refusal.number(), one.refusal.number()) {
         other
     } else {
         one
@@ -690,42 +627,68 @@ fn first_fault(one: Fault, other: Fault) -> Fault
 fn with_fault(page: Page, fault: Fault) -> Page
     ensures { result ≡ with_fault page fault }
 {
-    let mut page = page;
-    page.fault = first_fault(page.fault, fault);
-    page
+    let fault = match page.fault {
+        Some(first) => first_fault(first, fault),
+        None => fault,
+    };
+    Page {
+        fault: Some(fault),
+        ..page
+    }
 }
 
-fn with_line(page: Page, number: usize, line: LineRead) -> Page
-    ensures { result ≡ with_line page number line }
+// A keyword stands once. A line that repeats one is malformed, unless it has a refusal that comes first.
+#[tactic(auto, unfolding(crate::specs::Page::with_keyword))]
+fn with_keyword(page: Page, number: usize, keyword: usize, values: Result<Values, Refusal>) -> Page
+    requires { keyword < keyword_count }
+    ensures { result ≡ with_keyword page number keyword values }
 {
-    let keyword = line.keyword;
-    let fault = Fault {
-        refusal: line.refusal,
-        reason: line.reason,
-        line: number,
-    };
-    if KEYWORD_COUNT <= keyword {
-        return with_fault(page, fault);
-    }
     let mut present = page.present;
     if present[keyword] {
         let repeated = Fault {
-            refusal: refusal::BAD_INPUT,
-            reason: REPEATED_WORD,
+            refusal: Refusal::BadInput,
+            reason: Some(Reason::RepeatedWord),
             line: number,
         };
-        return with_fault(page, first_fault(repeated, fault));
+        return match values {
+            Ok(_) => with_fault(page, repeated),
+            Err(refusal) => {
+                let fault = refused_as(keyword, refusal, number);
+                with_fault(page, first_fault(repeated, fault))
+            }
+        };
     }
     present[keyword] = true;
-    let fault = first_fault(page.fault, fault);
-    let query = with_condition(page.query, keyword, line.values);
-    let before = page.print;
-    let print = with_print(before, keyword, line.values);
-    Page {
-        fault,
-        present,
-        query,
-        print,
+    match values {
+        Ok(values) => Page {
+            present,
+            query: with_condition(page.query, keyword, values),
+            print: with_print(page.print, keyword, values),
+            ..page
+        },
+        Err(refusal) => with_fault(
+            Page { present, ..page },
+            refused_as(keyword, refusal, number),
+        ),
+    }
+}
+
+#[tactic(auto, unfolding(crate::specs::Page::with_line))]
+fn with_line(page: Page, number: usize, line: LineRead) -> Page
+    requires { HasKeyword line }
+    ensures { result ≡ with_line page number line }
+{
+    match line {
+        LineRead::Blank => page,
+        LineRead::Malformed(reason) => with_fault(
+            page,
+            Fault {
+                refusal: Refusal::BadInput,
+                reason: Some(reason),
+                line: number,
+            },
+        ),
+        LineRead::Condition(keyword, values) => with_keyword(page, number, keyword, values),
     }
 }
 
@@ -734,44 +697,28 @@ fn empty_page() -> Page
 {
     let query = only_span(FIRST_EDITION, 0, Day::LAST);
     Page {
-        fault: Fault {
-            refusal: refusal::NONE,
-            reason: 0,
-            line: 0,
-        },
+        fault: None,
         present: [false; KEYWORD_COUNT],
         query,
         print: Print::Numbers,
     }
 }
 
-fn page_answer(page: Page) -> PageRead
+#[tactic(auto, unfolding(crate::specs::Page::page_answer))]
+fn page_answer(page: Page) -> Result<PageRead, Fault>
     ensures { result ≡ page_answer page }
 {
-    let fault = page.fault;
-    if fault.refusal == refusal::NONE {
-        let query = page.query;
-        let print = page.print;
-        return PageRead {
-            refusal: refusal::NONE,
-            reason: 0,
-            line: 0,
-            query,
-            print,
-        };
-    }
-    let query = only_span(0, 0, 0);
-    PageRead {
-        refusal: fault.refusal,
-        reason: fault.reason,
-        line: fault.line,
-        query,
-        print: Print::Numbers,
+    match page.fault {
+        Some(fault) => Err(fault),
+        None => Ok(PageRead {
+            query: page.query,
+            print: page.print,
+        }),
     }
 }
 
-// The query that a page's text means, or its refusal.
-pub fn read(text: &[u8]) -> PageRead
+// The query that a page's text means, or its fault.
+pub fn read(text: &[u8]) -> Result<PageRead, Fault>
     ensures { result ≡ page_read text.now }
 {
     let mut page = empty_page();
@@ -782,8 +729,8 @@ pub fn read(text: &[u8]) -> PageRead
             return page_answer(with_fault(
                 page,
                 Fault {
-                    refusal: refusal::BAD_INPUT,
-                    reason: NOT_ENDED,
+                    refusal: Refusal::BadInput,
+                    reason: Some(Reason::NotEnded),
                     line: number,
                 },
             ));

@@ -3,8 +3,10 @@
 // The expected lines were reckoned apart, with exact fractions.
 #![tactic(auto)]
 
-use days::{Day, NumberAnswer};
-use longitudes::{Body, MeanLongitude};
+use days::Day;
+use days::refusal::{Refusal, result_number};
+use longitudes::{BODIES, IN_ORDER, MeanLongitude, MeanLongitudes};
+use panchanga::Panchanga;
 
 const STDOUT_FILENO: i32 = 1;
 
@@ -17,51 +19,60 @@ const CASES: [u32; COUNT] = [
     200800, 238147, 251205, 397583, 397584, 401598, 401599, 401600,
 ];
 
+// What is printed of a refusal beside its number: all zeros.
+const NO_LONGITUDE: MeanLongitude = MeanLongitude {
+    seconds: 0,
+    remainder: 0,
+    divisor: 0,
+};
+
+const NO_LONGITUDES: MeanLongitudes = MeanLongitudes {
+    longitudes: [0; BODIES],
+    thirds: [0; BODIES],
+};
+
+const NO_PANCHANGA: Panchanga = Panchanga {
+    sun: 0,
+    moon: 0,
+    tithi: 0,
+    nakshatra: 0,
+    yoga: 0,
+    karana: 0,
+};
+
 fn show(number: u32) {
     io::write_all(STDOUT_FILENO, b" ");
     io::print_decimal(STDOUT_FILENO, number as u64);
 }
 
-fn show_single(answer: NumberAnswer) {
-    io::write_all(STDOUT_FILENO, b" ");
-    io::print_decimal(STDOUT_FILENO, answer.refusal as u64);
+fn show_single(answer: Result<u32, Refusal>) {
+    show(result_number(answer));
     io::write_all(STDOUT_FILENO, b":");
-    io::print_decimal(STDOUT_FILENO, answer.number as u64);
+    io::print_decimal(STDOUT_FILENO, answer.unwrap_or(0) as u64);
 }
 
-fn show_nine(numbers: [u32; longitudes::BODIES]) {
-    let mut i = 0;
-    while i < longitudes::BODIES {
-        show(numbers[i]);
-        i += 1;
+fn show_nine(numbers: [u32; BODIES]) {
+    for number in numbers {
+        show(number);
     }
 }
 
 fn show_longitudes(day: Day) {
-    let all = longitudes::mean_longitudes(day);
-    show(all.refusal);
-    let nine = all.longitudes;
-    show_nine(nine);
+    let answer = longitudes::mean_longitudes(day);
+    show(result_number(answer));
+    show_nine(answer.unwrap_or(NO_LONGITUDES).longitudes);
 }
 
-// The seconds, and in `show_remainder` what was left over.
-fn show_seconds(answer: MeanLongitude) {
-    show_single(NumberAnswer {
-        refusal: answer.refusal,
-        number: answer.seconds,
-    });
-}
-
-fn show_remainder(answer: MeanLongitude) {
-    io::write_all(STDOUT_FILENO, b" ");
-    io::print_decimal(STDOUT_FILENO, answer.remainder as u64);
+fn show_remainder(found: MeanLongitude) {
+    show(found.remainder);
     io::write_all(STDOUT_FILENO, b"/");
-    io::print_decimal(STDOUT_FILENO, answer.divisor as u64);
+    io::print_decimal(STDOUT_FILENO, found.divisor as u64);
 }
 
 fn show_panchanga(edition: u32, day: Day) {
-    let all = panchanga::of_day(edition, day);
-    show(all.refusal);
+    let answer = panchanga::of_day(edition, day);
+    let all = answer.unwrap_or(NO_PANCHANGA);
+    show(result_number(answer));
     show(all.sun);
     show(all.moon);
     show(all.tithi);
@@ -87,51 +98,32 @@ fn show_editions(day: Day) {
 }
 
 fn show_singles(day: Day) {
-    show_seconds(longitudes::mean_longitude(Body::Sun, day));
-    show_seconds(longitudes::mean_longitude(Body::Moon, day));
-    show_seconds(longitudes::mean_longitude(Body::MoonApogee, day));
-    show_seconds(longitudes::mean_longitude(Body::MoonNode, day));
-    show_seconds(longitudes::mean_longitude(Body::Mars, day));
-    show_seconds(longitudes::mean_longitude(Body::MercuryAnomaly, day));
-    show_seconds(longitudes::mean_longitude(Body::Jupiter, day));
-    show_seconds(longitudes::mean_longitude(Body::VenusAnomaly, day));
-    show_seconds(longitudes::mean_longitude(Body::Saturn, day));
+    for body in IN_ORDER {
+        show_single(longitudes::mean_longitude(body, day).map(|found| found.seconds));
+    }
     show_single(panchanga::true_sun(day));
     show_elements(panchanga::FIRST_EDITION, day);
 }
 
 fn show_remainders(day: Day) {
-    show_remainder(longitudes::mean_longitude(Body::Sun, day));
-    show_remainder(longitudes::mean_longitude(Body::Moon, day));
-    show_remainder(longitudes::mean_longitude(Body::MoonApogee, day));
-    show_remainder(longitudes::mean_longitude(Body::MoonNode, day));
-    show_remainder(longitudes::mean_longitude(Body::Mars, day));
-    show_remainder(longitudes::mean_longitude(Body::MercuryAnomaly, day));
-    show_remainder(longitudes::mean_longitude(Body::Jupiter, day));
-    show_remainder(longitudes::mean_longitude(Body::VenusAnomaly, day));
-    show_remainder(longitudes::mean_longitude(Body::Saturn, day));
+    for body in IN_ORDER {
+        show_remainder(longitudes::mean_longitude(body, day).unwrap_or(NO_LONGITUDE));
+    }
 }
 
 fn show_thirds(day: Day) {
-    let all = longitudes::mean_longitudes(day);
-    let nine = all.thirds;
-    show_nine(nine);
-    show_single(longitudes::mean_thirds(Body::Sun, day));
-    show_single(longitudes::mean_thirds(Body::Moon, day));
-    show_single(longitudes::mean_thirds(Body::MoonApogee, day));
-    show_single(longitudes::mean_thirds(Body::MoonNode, day));
-    show_single(longitudes::mean_thirds(Body::Mars, day));
-    show_single(longitudes::mean_thirds(Body::MercuryAnomaly, day));
-    show_single(longitudes::mean_thirds(Body::Jupiter, day));
-    show_single(longitudes::mean_thirds(Body::VenusAnomaly, day));
-    show_single(longitudes::mean_thirds(Body::Saturn, day));
+    show_nine(
+        longitudes::mean_longitudes(day)
+            .unwrap_or(NO_LONGITUDES)
+            .thirds,
+    );
+    for body in IN_ORDER {
+        show_single(longitudes::mean_thirds(body, day));
+    }
 }
 
 fn show_day(number: u32) {
-    let day = Day {
-        cycle: number / Day::CYCLE_DAYS,
-        within: number % Day::CYCLE_DAYS,
-    };
+    let day = Day::at(number);
     io::print_decimal(STDOUT_FILENO, number as u64);
     show_longitudes(day);
     show_panchanga(panchanga::FIRST_EDITION, day);
@@ -143,9 +135,7 @@ fn show_day(number: u32) {
 }
 
 fn main() {
-    let mut i = 0;
-    while i < COUNT {
-        show_day(CASES[i]);
-        i += 1;
+    for number in CASES {
+        show_day(number);
     }
 }

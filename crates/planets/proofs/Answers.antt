@@ -1,19 +1,17 @@
 -- A planet of a day is what the mean Sun and its own number among the nine bodies give; and the laws of the five
 -- together.
 -- Assumes nothing.
-use mathlib.Core.Bool.{Bool, true, false, cond}
+use mathlib.Core.Bool.{true, false}
 use mathlib.Core.List.{[], ◌∷◌, ◌++◌}
 use mathlib.Core.Path.{◌≡◌, refl, ◌∙◌}
 use Prim.Native.Nat.{ℕ, zero, suc, ◌+◌, ◌≤◌}
 use native.Mathlib.Omega.{arith}
-use lib.ListN.{get_or, replicate}
+use lib.ListN.{get_or}
 use Rattle.days.specs.declared.Day.{Day}
-use Rattle.days.specs.Days.{in_range}
 use Rattle.longitudes.specs.Longitudes.{difference_of, longitude_at}
-use Rattle.planets.specs.declared.TrueLongitudes.{TrueLongitudes}
 use Rattle.planets.specs.Tables.{PlanetRow, row_of}
 use Rattle.planets.specs.Steps.{sighra_size, manda_size, half_corrected, manda_anomaly, manda_corrected, second_anomaly, true_planet}
-use Rattle.planets.specs.OnDays.{is_inner, mean_planet, first_anomaly, true_planet_at, true_planets_at, true_planets_of}
+use Rattle.planets.specs.OnDays.{is_inner, mean_planet, first_anomaly, true_planet_at, true_planets_at}
 use Rattle.planets.proofs.Lines.{line-behind}
 
 -- the rows as the code has them, with a 0 behind the last entry, give the same
@@ -40,24 +38,12 @@ module _ (p sun own : ℕ) (d : Day) (s : sun ≡ longitude_at 0 d) (o : own ≡
   pub inner-lent : is_inner p ≡ true → true_planet (with_zero (row_of p)) sun own ≡ true_planet_at p d
   inner-lent i = same-planet (row_of p) sun own ∙ inner-planet i
 
-pub five-given : (d : Day) → in_range d ≡ true → true_planets_of d ≡ record { refusal = 0; longitudes = true_planets_at d }
-unfolding true_planets_of
-five-given d r = rw r
-
-pub five-refused : (d : Day) → in_range d ≡ false → true_planets_of d ≡ record { refusal = 2; longitudes = replicate 5 0 }
-unfolding true_planets_of
-five-refused d r = rw r
-
 -- behind the five there is nothing
-pub five-beyond : (d : Day) (k : ℕ) → 5 ≤ k → get_or (true_planets_of d).longitudes k 0 ≡ 0
-unfolding true_planets_of true_planets_at
+pub five-beyond : (d : Day) (k : ℕ) → 5 ≤ k → get_or (true_planets_at d) k 0 ≡ 0
+unfolding true_planets_at
 five-beyond d zero h = absurd (omega arith)
 five-beyond d (suc zero) h = absurd (omega arith)
 five-beyond d (suc (suc zero)) h = absurd (omega arith)
 five-beyond d (suc (suc (suc zero))) h = absurd (omega arith)
 five-beyond d (suc (suc (suc (suc zero)))) h = absurd (omega arith)
-five-beyond d (suc (suc (suc (suc (suc k))))) h = go (in_range d)
-  where
-    go : (t : Bool) → get_or (cond {A = TrueLongitudes} t (record { refusal = 0; longitudes = true_planets_at d }) (record { refusal = 2; longitudes = replicate 5 0 })).longitudes (suc (suc (suc (suc (suc k))))) 0 ≡ 0
-    go true = refl
-    go false = refl
+five-beyond d (suc (suc (suc (suc (suc k))))) h = refl

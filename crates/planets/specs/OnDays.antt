@@ -1,16 +1,14 @@
 -- The five planets of a day, and what is handed back of them.
 -- Assumes nothing.
-use Rattle.std.specs.Prelude.{Bool, cond, ◌||◌, List, [], ◌∷◌, map, ℕ, ◌+◌, eqb, replicate}
+use Rattle.std.specs.Prelude.{Bool, cond, ◌||◌, List, [], ◌∷◌, map, ℕ, ◌+◌, eqb, Result}
 use Rattle.days.specs.declared.Day.{Day}
-use Rattle.days.specs.declared.NumberAnswer.{NumberAnswer}
-use Rattle.days.specs.Refusals.{accepted, out_of_range}
-use Rattle.days.specs.Days.{in_range, on_day}
+use Rattle.days.specs.declared.refusal.Refusal.{Refusal}
+use Rattle.days.specs.Days.{answer_on}
 use Rattle.longitudes.specs.declared.Body.TheVariants.{Sun, Mars}
 use Rattle.longitudes.specs.Longitudes.{difference_of, longitude_at}
 use Rattle.longitudes.specs.Answers.{body_number}
 use Rattle.planets.specs.declared.Planet.{Planet}
 use Rattle.planets.specs.declared.Planet.TheVariants as planet
-use Rattle.planets.specs.declared.TrueLongitudes.{TrueLongitudes}
 use Rattle.planets.specs.Tables.{row_of}
 use Rattle.planets.specs.Steps.{true_planet}
 
@@ -48,12 +46,9 @@ planet_number planet.Jupiter = 2
 planet_number planet.Venus = 3
 planet_number planet.Saturn = 4
 
-abbrev pub true_planet_of : Planet → Day → NumberAnswer
-true_planet_of p d = on_day (true_planet_at (planet_number p)) d
+abbrev pub true_planet_of : Planet → Day → Result ℕ Refusal
+true_planet_of p d = answer_on (true_planet_at (planet_number p)) d
 
--- the five in their order; refusal 2 with all zeros for a pair that is no day
-unfoldable pub true_planets_of : Day → TrueLongitudes
-true_planets_of d =
-    cond (in_range d)
-    (record { refusal = accepted; longitudes = true_planets_at d })
-    (record { refusal = out_of_range; longitudes = replicate 5 0 })
+-- the five in their order
+abbrev pub true_planets_of : Day → Result (List ℕ) Refusal
+true_planets_of d = answer_on true_planets_at d

@@ -10,9 +10,10 @@ ghost use Rattle.panchanga.specs.TrueLongitudes.{bhuja};
 ghost use Rattle.planets.specs.Tables.{straight_line, largest};
 ghost use Rattle.planets.specs.Steps.{within_half, true_planet};
 ghost use Rattle.planets.specs.OnDays.{planet_number, true_planet_at, true_planet_of, true_planets_of};
-ghost use Rattle.planets.specs.Parts.{SignedBy};
+ghost use Rattle.planets.specs.Parts.{planet_row, SignedBy};
 
-use days::{Day, NumberAnswer, refusal};
+use days::Day;
+use days::refusal::Refusal;
 use longitudes::{Body, CIRCLE};
 
 pub const PLANETS: usize = 5;
@@ -26,13 +27,6 @@ pub enum Planet {
     Saturn,
 }
 
-// The five in the order of `Planet`; a refusal has all zeros.
-#[derive(Clone, Copy)]
-pub struct TrueLongitudes {
-    pub refusal: u32,
-    pub longitudes: [u32; PLANETS],
-}
-
 const HALF: u32 = CIRCLE / 2;
 
 const QUARTER: u32 = CIRCLE / 4;
@@ -43,29 +37,48 @@ const SPACING: u32 = CIRCLE / 24;
 // A tenth of a degree, the unit of the tables.
 const TENTH: u32 = CIRCLE / 3600;
 
-// Paper 02's tables, a row for each planet, with a 0 behind the last entry: it counts for nothing, since no arc goes
-// past that entry.
-const SIGHRA: [[u16; 14]; PLANETS] = [
-    [
+// What paper 02's tables have of a planet, each row with a 0 behind the last entry: it counts for nothing, since no arc
+// goes past that entry.
+#[derive(Clone, Copy)]
+struct Row {
+    sighra: [u16; 14],
+    manda: [u16; 8],
+    apogee: u32,
+}
+
+const MARS: Row = Row {
+    sighra: [
         0, 58, 117, 174, 228, 279, 325, 365, 393, 400, 368, 249, 0, 0,
     ],
-    [0, 41, 81, 117, 150, 178, 199, 212, 212, 195, 155, 89, 0, 0],
-    [0, 25, 47, 68, 85, 98, 106, 108, 102, 89, 66, 36, 0, 0],
-    [
+    manda: [0, 29, 57, 85, 109, 124, 130, 0],
+    apogee: 432000,
+};
+
+const MERCURY: Row = Row {
+    sighra: [0, 41, 81, 117, 150, 178, 199, 212, 212, 195, 155, 89, 0, 0],
+    manda: [0, 12, 21, 28, 33, 35, 36, 0],
+    apogee: 756000,
+};
+
+const JUPITER: Row = Row {
+    sighra: [0, 25, 47, 68, 85, 98, 106, 108, 102, 89, 66, 36, 0, 0],
+    manda: [0, 14, 27, 39, 48, 55, 57, 0],
+    apogee: 648000,
+};
+
+const VENUS: Row = Row {
+    sighra: [
         0, 63, 126, 186, 246, 302, 354, 402, 440, 461, 443, 326, 0, 0,
     ],
-    [0, 15, 28, 39, 48, 54, 57, 57, 53, 45, 33, 18, 0, 0],
-];
+    manda: [0, 6, 11, 13, 14, 15, 15, 0],
+    apogee: 324000,
+};
 
-const MANDA: [[u16; 8]; PLANETS] = [
-    [0, 29, 57, 85, 109, 124, 130, 0],
-    [0, 12, 21, 28, 33, 35, 36, 0],
-    [0, 14, 27, 39, 48, 55, 57, 0],
-    [0, 6, 11, 13, 14, 15, 15, 0],
-    [0, 19, 40, 60, 77, 89, 93, 0],
-];
-
-const APOGEES: [u32; PLANETS] = [432000, 756000, 648000, 324000, 864000];
+const SATURN: Row = Row {
+    sighra: [0, 15, 28, 39, 48, 54, 57, 57, 53, 45, 33, 18, 0, 0],
+    manda: [0, 19, 40, 60, 77, 89, 93, 0],
+    apogee: 864000,
+};
 
 // A row's size at an arc: the straight line between two entries, each counted by how near it is. (Fifteen degrees have
 // 150 times the seconds of a tenth of a degree.)
@@ -124,39 +137,37 @@ fn less(a: u32, b: u32) -> u32
     within_circle(a + CIRCLE - b)
 }
 
-// The true longitude of a mean planet with its first anomaly, by the planet's rows and its apogee.
-fn true_planet(sighra: &[u16; 14], manda: &[u16; 8], apogee: u32, mean: u32, first: u32) -> u32
-    requires sighra_bound { (largest sighra.now ≤ 461) × (largest manda.now ≤ 461) }
-    requires apogee_bound { (apogee < 1296000) × ((mean < 1296000) × (first < 1296000)) }
-    ensures { result ≡ true_planet (record { sighra = sighra.entry.now; manda = manda.now; apogee = apogee }) mean first }
+// The true longitude of a mean planet with its first anomaly.
+fn true_planet(row: &Row, mean: u32, first: u32) -> u32
+    requires row_bounds { (largest row.now.sighra ≤ 461) × ((largest row.now.manda ≤ 461) × (row.now.apogee < 1296000)) }
+    requires place_bounds { (mean < 1296000) × (first < 1296000) }
+    ensures { result ≡ true_planet (planet_row row.now) mean first }
 {
-    let sighra: &[u16] = sighra;
-    let manda: &[u16] = manda;
-    let half = forwards(first, on_line(sighra, within_half(first)) / 2);
+    let half = forwards(first, on_line(&row.sighra, within_half(first)) / 2);
     let place = within_circle(mean + half);
-    let anomaly = less(apogee, place);
-    let centre = forwards(anomaly, on_line(manda, within_quarter(anomaly)));
+    let anomaly = less(row.apogee, place);
+    let centre = forwards(anomaly, on_line(&row.manda, within_quarter(anomaly)));
     let second = less(first, centre);
-    let whole = forwards(second, on_line(sighra, within_half(second)));
+    let whole = forwards(second, on_line(&row.sighra, within_half(second)));
     let middle = within_circle(mean + centre);
     within_circle(middle + whole)
 }
 
 // The same of a planet with a mean place of its own: its first anomaly is the mean Sun less it.
-fn outer(sighra: &[u16; 14], manda: &[u16; 8], apogee: u32, sun: u32, own: u32) -> u32
-    requires sighra_bound { (largest sighra.now ≤ 461) × (largest manda.now ≤ 461) }
-    requires apogee_bound { (apogee < 1296000) × ((sun < 1296000) × (own < 1296000)) }
-    ensures { result ≡ true_planet (record { sighra = sighra.entry.now; manda = manda.now; apogee = apogee }) own (difference_of sun own) }
+fn outer(row: &Row, sun: u32, own: u32) -> u32
+    requires row_bounds { (largest row.now.sighra ≤ 461) × ((largest row.now.manda ≤ 461) × (row.now.apogee < 1296000)) }
+    requires place_bounds { (sun < 1296000) × (own < 1296000) }
+    ensures { result ≡ true_planet (planet_row row.now) own (difference_of sun own) }
 {
     let first = less(sun, own);
-    true_planet(sighra, manda, apogee, own, first)
+    true_planet(row, own, first)
 }
 
 fn mean_on(body: Body, day: Day) -> u32
     requires { in_range day ≡ true }
     ensures { (result ≡ longitude_at (body_number body) day) × (result < 1296000) }
 {
-    longitudes::mean_longitude(body, day).seconds
+    longitudes::mean_longitude(body, day).unwrap().seconds
 }
 
 // A case for each planet, so that the compiler has its rows and its motion as constants.
@@ -166,80 +177,36 @@ fn true_on(planet: Planet, day: Day) -> u32
 {
     let sun = mean_on(Body::Sun, day);
     match planet {
-        Planet::Mars => {
-            let sighra = SIGHRA[0];
-            let manda = MANDA[0];
-            outer(&sighra, &manda, APOGEES[0], sun, mean_on(Body::Mars, day))
-        }
-        Planet::Mercury => {
-            let sighra = SIGHRA[1];
-            let manda = MANDA[1];
-            true_planet(
-                &sighra,
-                &manda,
-                APOGEES[1],
-                sun,
-                mean_on(Body::MercuryAnomaly, day),
-            )
-        }
-        Planet::Jupiter => {
-            let sighra = SIGHRA[2];
-            let manda = MANDA[2];
-            outer(
-                &sighra,
-                &manda,
-                APOGEES[2],
-                sun,
-                mean_on(Body::Jupiter, day),
-            )
-        }
-        Planet::Venus => {
-            let sighra = SIGHRA[3];
-            let manda = MANDA[3];
-            true_planet(
-                &sighra,
-                &manda,
-                APOGEES[3],
-                sun,
-                mean_on(Body::VenusAnomaly, day),
-            )
-        }
-        Planet::Saturn => {
-            let sighra = SIGHRA[4];
-            let manda = MANDA[4];
-            outer(&sighra, &manda, APOGEES[4], sun, mean_on(Body::Saturn, day))
-        }
+        Planet::Mars => outer(&MARS, sun, mean_on(Body::Mars, day)),
+        Planet::Mercury => true_planet(&MERCURY, sun, mean_on(Body::MercuryAnomaly, day)),
+        Planet::Jupiter => outer(&JUPITER, sun, mean_on(Body::Jupiter, day)),
+        Planet::Venus => true_planet(&VENUS, sun, mean_on(Body::VenusAnomaly, day)),
+        Planet::Saturn => outer(&SATURN, sun, mean_on(Body::Saturn, day)),
     }
 }
 
-pub fn true_longitude(planet: Planet, day: Day) -> NumberAnswer
+pub fn true_longitude(planet: Planet, day: Day) -> Result<u32, Refusal>
     ensures { result ≡ true_planet_of planet day }
 {
     if day.in_range() {
-        NumberAnswer::accepted(true_on(planet, day))
+        Ok(true_on(planet, day))
     } else {
-        NumberAnswer::OUT_OF_RANGE
+        Err(Refusal::OutOfRange)
     }
 }
 
-pub fn true_longitudes(day: Day) -> TrueLongitudes
+// The five in the order of `Planet`.
+pub fn true_longitudes(day: Day) -> Result<[u32; PLANETS], Refusal>
     ensures { result ≡ true_planets_of day }
 {
-    if day.in_range() {
-        TrueLongitudes {
-            refusal: refusal::NONE,
-            longitudes: [
-                true_on(Planet::Mars, day),
-                true_on(Planet::Mercury, day),
-                true_on(Planet::Jupiter, day),
-                true_on(Planet::Venus, day),
-                true_on(Planet::Saturn, day),
-            ],
-        }
-    } else {
-        TrueLongitudes {
-            refusal: refusal::OUT_OF_RANGE,
-            longitudes: [0u32; PLANETS],
-        }
+    if !day.in_range() {
+        return Err(Refusal::OutOfRange);
     }
+    Ok([
+        true_on(Planet::Mars, day),
+        true_on(Planet::Mercury, day),
+        true_on(Planet::Jupiter, day),
+        true_on(Planet::Venus, day),
+        true_on(Planet::Saturn, day),
+    ])
 }

@@ -1,9 +1,9 @@
 -- The engravers' plate: from the bytes of the input to the bytes that are printed, a heading and a line for each body,
 -- or a refusal.
 -- Assumes nothing.
-use Rattle.std.specs.Prelude.{cond, List, [], ◌∷◌, ◌++◌, ℕ, zero, suc, ◌/◌, ◌%◌, eqb}
-use Rattle.days.specs.declared.NumberAnswer.{NumberAnswer}
-use Rattle.days.specs.Refusals.{accepted}
+use Rattle.std.specs.Prelude.{List, [], ◌∷◌, ◌++◌, ℕ, zero, suc, ◌/◌, ◌%◌, Result, Ok, Err}
+use Rattle.days.specs.declared.refusal.Refusal.{Refusal}
+use Rattle.days.specs.Refusals.{refusal_number}
 use Rattle.days.specs.Days.{pair_at}
 use Rattle.longitudes.specs.Longitudes.{longitude_at, thirds_at}
 use Rattle.text.specs.Ascii.{ascii}
@@ -32,11 +32,18 @@ unfoldable pub body_lines : ℕ → ℕ → ℕ → List (List ℕ)
 body_lines n b zero = []
 body_lines n b (suc m) = body_line_on n b ∷ body_lines n (suc b) m
 
--- the lines that are printed for an input: the heading and the nine bodies in paper 01's order, or the refusal
+-- a day's lines: the heading and the nine bodies in paper 01's order
+abbrev pub lines_of : ℕ → List (List ℕ)
+lines_of n = plate_heading ∷ body_lines n 0 9
+
+-- the lines for a day that was read, or was refused
+abbrev pub lines_for : Result ℕ Refusal → List (List ℕ)
+lines_for (Ok n) = lines_of n
+lines_for (Err r) = refusal_line (refusal_number r) ∷ []
+
+-- the lines that are printed for an input: the day's, or the refusal
 unfoldable pub plate_lines : List ℕ → List (List ℕ)
-plate_lines bs =
-    let read : NumberAnswer = day_input bs in
-    cond (eqb read.refusal accepted) (plate_heading ∷ body_lines read.number 0 9) (refusal_line read.refusal ∷ [])
+plate_lines bs = lines_for (day_input bs)
 
 -- ALL THAT IS PRINTED for an input
 abbrev pub plate_printed : List ℕ → List ℕ

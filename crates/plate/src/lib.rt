@@ -1,12 +1,13 @@
 // The engravers' plate: a day's nine mean longitudes in degrees, minutes, seconds and thirds, line by line.
 #![tactic(auto)]
 
-ghost use Rattle.std.specs.Prelude.{◌≡◌, ◌<◌, length};
+ghost use Rattle.std.specs.Prelude.{◌≡◌, ◌<◌, ◌≤◌, length};
+ghost use Rattle.days.specs.Days.{last_day};
 ghost use Rattle.text.specs.Lines.{Holds};
 ghost use Rattle.text.specs.Sheets.{line_at};
-ghost use Rattle.plate.specs.Plates.{plate_heading, body_line, plate_lines};
+ghost use Rattle.plate.specs.Plates.{plate_heading, body_line, lines_of, plate_lines};
 
-use days::{Day, refusal};
+use days::Day;
 use text::Line;
 
 // The heading, and a line for each body.
@@ -29,27 +30,21 @@ fn body_line(body: usize, seconds: u32, thirds: u32) -> Line
 }
 
 // How many lines are printed for an input; a refusal is one.
+#[tactic(auto, unfolding(crate::specs::Plates::plate_lines, crate::specs::Plates::body_lines))]
 pub fn line_count(input: &[u8]) -> usize
     ensures { result ≡ length (plate_lines input.now) }
 {
-    let read = text::read_day(input);
-    if read.refusal != refusal::NONE {
-        return 1;
+    match text::read_day(input) {
+        Ok(_) => LINES,
+        Err(_) => 1,
     }
-    LINES
 }
 
-// One of the lines that are printed for an input, counted from 0; behind the last one nothing.
-pub fn line(input: &[u8], index: usize) -> Line
-    ensures { Holds result (line_at (plate_lines input.now) index) }
+// One of the lines of a day; behind the last one nothing.
+fn day_line(number: u32, index: usize) -> Line
+    requires { number ≤ last_day }
+    ensures { Holds result (line_at (lines_of number) index) }
 {
-    let read = text::read_day(input);
-    if read.refusal != refusal::NONE {
-        if index == 0 {
-            return text::refusal_line(read.refusal);
-        }
-        return Line::empty();
-    }
     if index == 0 {
         return heading();
     }
@@ -57,9 +52,20 @@ pub fn line(input: &[u8], index: usize) -> Line
         return Line::empty();
     }
     let body = index - 1;
-    let answer = Day::from_number(read.number);
-    let all = longitudes::mean_longitudes(answer.day);
+    let all = longitudes::mean_longitudes(Day::at(number)).unwrap();
     let longitudes = all.longitudes;
     let thirds = all.thirds;
     body_line(body, longitudes[body], thirds[body])
+}
+
+// One of the lines that are printed for an input, counted from 0; behind the last one nothing.
+#[tactic(auto, unfolding(crate::specs::Plates::plate_lines))]
+pub fn line(input: &[u8], index: usize) -> Line
+    ensures { Holds result (line_at (plate_lines input.now) index) }
+{
+    match text::read_day(input) {
+        Ok(number) => day_line(number, index),
+        Err(refusal) if index == 0 => text::refusal_line(refusal.number()),
+        Err(_) => Line::empty(),
+    }
 }

@@ -1,17 +1,22 @@
 -- A query that is not refused: what is then in range, by the tests in their order; and back.
 -- Assumes nothing.
 use Prim.Native.Nat.{ℕ, ◌≤◌}
-use mathlib.Core.Path.{◌≡◌, refl}
+use mathlib.Core.Path.{◌≡◌, refl, sym, ap, ◌∙◌}
 use mathlib.Core.Bool.{Bool, true, false, cond, ◌&&◌, false≢true}
 use native.Mathlib.Omega.{arith}
 use lib.Dec.{leb}
 use borrow.Author.Tests.{leb-true, le-leb}
-use Rattle.days.specs.Days.{last_day}
+use Rattle.std.specs.Prelude.{Result, Ok, Err}
+use Rattle.days.specs.declared.refusal.Refusal.{Refusal}
+use Rattle.days.specs.declared.refusal.Refusal.TheVariants.{NoSuchDate, OutOfRange, BadInput, NoSuchWeekday, LastBeforeFirst, BadCondition, ListTooShort, NoExtraMonth, BadLength, BadChecksum, BadIndex, NotZero, BadDay, BadEdition, BadLine, NoSuchBody}
+use Rattle.days.specs.Refusals.{refusal_number, result_number}
+use Rattle.days.specs.Days.{last_day, answer_over, refused_span_or}
+use Rattle.days.proofs.Laws.{over-number}
 use Rattle.panchanga.specs.TrueLongitudes.{is_edition}
 use Rattle.query.specs.declared.BodyArcs.{BodyArcs}
 use Rattle.query.specs.declared.Query.{Query}
 use Rattle.query.specs.Conditions.{weekdays_in_range, arc_in_range, body_arcs_in_range, arcs_in_range, elements_in_range, conditions_in_range}
-use Rattle.query.specs.Query.{sun_arcs, refusal_of}
+use Rattle.query.specs.Query.{sun_arcs, refusal_of, check_of}
 
 and_right : (a b : Bool) → (a && b) ≡ true → b ≡ true
 and_right true b e = e
@@ -58,6 +63,58 @@ accepted-by q e = go (is_edition q.edition) (leb q.first last_day) (leb q.last l
     go true true false o g d h k c e = absurd (omega arith)
     go true false b o g d h k c e = absurd (omega arith)
     go false a b o g d h k c e = absurd (omega arith)
+
+-- the check of a query has the number of its refusal
+pub check-number : (q : Query) → result_number (check_of q) ≡ refusal_of q
+unfolding check_of refusal_of result_number
+check-number q = go (is_edition q.edition) (conditions_in_range q)
+  where
+    go :
+        (t g : Bool) →
+        result_number (cond t (answer_over q.first q.last (cond g (Ok (tt {0})) (Err BadCondition))) (Err BadEdition))
+        ≡ cond t (refused_span_or q.first q.last (cond g 0 6)) 14
+    go true true = over-number q.first q.last _
+    go true false = over-number q.first q.last _
+    go false g = refl
+
+-- a query that the check accepts, and one that it refuses
+pub checked : (q : Query) → Ok (tt {0}) ≡ check_of q → refusal_of q ≡ 0
+unfolding result_number
+checked q e = sym (check-number q) ∙ ap result_number (sym e)
+
+-- a refusal has a number that is not 0
+pub refusal-positive : (r : Refusal) → refusal_number r ≡ 0 → ⊥
+refusal-positive NoSuchDate e = omega arith
+refusal-positive OutOfRange e = omega arith
+refusal-positive BadInput e = omega arith
+refusal-positive NoSuchWeekday e = omega arith
+refusal-positive LastBeforeFirst e = omega arith
+refusal-positive BadCondition e = omega arith
+refusal-positive ListTooShort e = omega arith
+refusal-positive NoExtraMonth e = omega arith
+refusal-positive BadLength e = omega arith
+refusal-positive BadChecksum e = omega arith
+refusal-positive BadIndex e = omega arith
+refusal-positive NotZero e = omega arith
+refusal-positive BadDay e = omega arith
+refusal-positive BadEdition e = omega arith
+refusal-positive BadLine e = omega arith
+refusal-positive NoSuchBody e = omega arith
+
+pub accepts-check : (q : Query) → refusal_of q ≡ 0 → check_of q ≡ Ok (tt {0})
+unfolding result_number
+accepts-check q e = go (check_of q) (check-number q ∙ e)
+  where
+    go : (c : Result (Unit {0}) Refusal) → result_number c ≡ 0 → c ≡ Ok (tt {0})
+    go (Ok tt) n = refl
+    go (Err r) n = absurd (refusal-positive r n)
+
+pub check-refused : (q : Query) {r : Refusal} → Err r ≡ check_of q → refusal_number r ≡ refusal_of q
+unfolding result_number
+check-refused q e = ap result_number e ∙ check-number q
+
+pub refused-number : (q : Query) {r : Refusal} → Err r ≡ check_of q → refusal_of q ≡ 0 → ⊥
+refused-number q {r} e z = refusal-positive r (check-refused q e ∙ z)
 
 pub accepts : (q : Query) → is_edition q.edition ≡ true → q.first ≤ q.last → q.last ≤ last_day → conditions_in_range q ≡ true → refusal_of q ≡ 0
 unfolding refusal_of

@@ -6,14 +6,17 @@ use mathlib.Core.List.{List, [], ◌∷◌}
 use Prim.Native.Nat.{ℕ, zero, suc, ◌≤◌, ◌<◌}
 use native.Mathlib.Omega.{arith}
 use lib.Dec.{lit<}
+use lib.ListN.{length, drop}
 use borrow.Author.Tests.{not-true, not-false}
+use Rattle.std.specs.Prelude.{Ok}
+use Rattle.std.specs.List.{list_all}
 use Rattle.days.specs.declared.Day.{Day}
 use Rattle.days.specs.Days.{last_day, in_range, pair_at, weekday_on}
 use Rattle.days.proofs.Laws.{pair-in-range}
 use Rattle.panchanga.specs.declared.Lights.{Lights}
 use Rattle.panchanga.specs.TrueLongitudes.{is_edition}
-use Rattle.panchanga.specs.OnDays.{true_sun_at, true_moon_at, tithi_at, nakshatra_at, yoga_at, karana_at, lights_of}
-use Rattle.panchanga.proofs.Answers.{lights-given}
+use Rattle.panchanga.specs.OnDays.{true_sun_at, true_moon_at, tithi_at, nakshatra_at, yoga_at, karana_at, lights_at, lights_of}
+use Rattle.panchanga.proofs.Answers.{given-in}
 use Rattle.query.specs.declared.Asked.{Asked}
 use Rattle.query.specs.declared.BodyArcs.{BodyArcs}
 use Rattle.query.specs.declared.Query.{Query}
@@ -58,6 +61,32 @@ module _ (p : ℕ → Bool) where
   place-false (suc (suc (suc (suc (suc zero))))) u e = simp (e, and-false)
   place-false (suc (suc (suc (suc (suc (suc zero)))))) u e = simp (e, and-false)
   place-false (suc (suc (suc (suc (suc (suc (suc n))))))) u e = absurd (omega arith)
+
+-- a test of each element of a list, by their places
+each_from : ℕ → (ℕ → Bool) → Bool
+each_from zero p = true
+each_from (suc n) p = p 0 && each_from n (λ (k : ℕ). p (suc k))
+
+module _ (p : BodyArcs → Bool) where
+  all-from : (arcs : List BodyArcs) → list_all p arcs ≡ each_from (length arcs) (λ (k : ℕ). p (arcs_at arcs k))
+  unfolding each_from
+  all-from [] = refl
+  all-from (a ∷ arcs) = rw (all-from arcs)
+
+  pub all-nine : (arcs : List BodyArcs) → length arcs ≡ 9 → list_all p arcs ≡ each_body (λ (k : ℕ). p (arcs_at arcs k))
+  unfolding each_from
+  all-nine arcs e = rw (all-from arcs, e, and-true)
+
+  pub all-others : (arcs : List BodyArcs) → length arcs ≡ 9 → list_all p (drop 1 arcs) ≡ each_other (λ (k : ℕ). p (arcs_at arcs k))
+  unfolding each_from
+  all-others [] e = absurd (omega arith)
+  all-others (a ∷ arcs) e =
+      let eight : length arcs ≡ 8 = omega arith in
+      rw (all-from arcs, eight, and-true)
+
+  pub all-seven : (arcs : List BodyArcs) → length arcs ≡ 7 → list_all p arcs ≡ each_place (λ (k : ℕ). p (arcs_at arcs k))
+  unfolding each_from
+  all-seven arcs e = rw (all-from arcs, e, and-true)
 
 pub arcs-true : (arcs : List BodyArcs) → ((k : ℕ) → k < 9 → body_arcs_in_range (arcs_at arcs k) ≡ true) → arcs_in_range arcs ≡ true
 unfolding arcs_in_range
@@ -137,10 +166,8 @@ pub record LightsOn (edition : ℕ) (d : Day) (found : Lights) : Type 0 where
   pub sun : found.sun ≡ true_sun_at d
   pub moon : found.moon ≡ true_moon_at edition d
 
-pub lights-on : (edition : ℕ) (d : Day) (found : Lights) → (in_range d ≡ true) × (is_edition edition ≡ true) → found ≡ lights_of edition d → LightsOn edition d found
-lights-on edition d found r e =
-    let given = e ∙ lights-given edition d (record { edition = r.1; range = r.0 }) in
-    record { sun = rw given; moon = rw given }
+pub lights-on : (edition : ℕ) (d : Day) {found : Lights} → Ok found ≡ lights_of edition d → LightsOn edition d found
+lights-on edition d e = let given = given-in lights_at edition d e in record { sun = rw given; moon = rw given }
 
 -- the elements that are asked for, of a day in range in an edition
 module _ (edition : ℕ) (tithi nakshatra yoga karana : Asked) (d : Day) where

@@ -1,8 +1,10 @@
 -- What a query asks of a day, and why it is refused.
 -- Assumes nothing.
-use Rattle.std.specs.Prelude.{Bool, cond, ◌&&◌, ℕ, leb}
+use Rattle.std.specs.Prelude.{Bool, cond, ◌&&◌, ℕ, leb, Result, Ok, Err}
+use Rattle.days.specs.declared.refusal.Refusal.{Refusal}
+use Rattle.days.specs.declared.refusal.Refusal.TheVariants.{BadCondition, BadEdition}
 use Rattle.days.specs.Refusals.{accepted, bad_condition, bad_edition}
-use Rattle.days.specs.Days.{weekday_on, pair_at, refused_span_or}
+use Rattle.days.specs.Days.{weekday_on, pair_at, refused_span_or, answer_over}
 use Rattle.panchanga.specs.TrueLongitudes.{is_edition}
 use Rattle.query.specs.declared.BodyArcs.{BodyArcs}
 use Rattle.query.specs.declared.Query.{Query}
@@ -33,3 +35,10 @@ refusal_of q =
     cond (is_edition q.edition)
     (refused_span_or q.first q.last (cond (conditions_in_range q) accepted bad_condition))
     bad_edition
+
+-- the same with the refusal itself
+unfoldable pub check_of : Query → Result (Unit {0}) Refusal
+check_of q =
+    cond (is_edition q.edition)
+    (answer_over q.first q.last (cond (conditions_in_range q) (Ok tt) (Err BadCondition)))
+    (Err BadEdition)

@@ -7,13 +7,15 @@ ghost use Rattle.longitudes.specs.Longitudes.{longitude_at};
 ghost use Rattle.longitudes.specs.Answers.{body_number};
 ghost use Rattle.panchanga.specs.TrueLongitudes.{is_edition};
 ghost use Rattle.panchanga.specs.OnDays.{nakshatra_at};
-ghost use Rattle.query.specs.Conditions.{only_weekday, only_arc, has_number, with_number, meets, weekday_met, arcs_given, given_arcs, in_arc, in_some, in_arcs, numbers_in_range, weekdays_in_range, arc_in_range, body_arcs_in_range, arcs_in_range, true_arcs_in_range, elements_in_range, conditions_in_range, elements_met, true_longitude_at, true_arcs_met};
-ghost use Rattle.query.specs.Query.{refusal_of};
+ghost use Rattle.std.specs.List.{list_all};
+ghost use Rattle.query.specs.Conditions.{only_weekday, only_arc, has_number, with_number, meets, weekday_met, arcs_given, given_arcs, in_arc, in_some, in_arcs, numbers_in_range, weekdays_in_range, arc_in_range, body_arcs_in_range, elements_in_range, conditions_in_range, elements_met, true_longitude_at, true_arcs_met};
+ghost use Rattle.query.specs.Query.{check_of};
 ghost use Rattle.query.specs.TrueBodies.{true_number, true_longitude_of};
 ghost use Rattle.query.specs.SunArcs.{wider_arc, wider_arcs, with_sun_arcs};
 ghost use Rattle.query.specs.Parts.{other_arcs_met, others_met};
 
-use days::{Day, NumberAnswer, refusal};
+use days::Day;
+use days::refusal::Refusal;
 use longitudes::{Body, CIRCLE};
 use planets::Planet;
 
@@ -36,6 +38,7 @@ const LARGEST_EQUATION: u32 = 7845;
 
 // Numbers that are asked for, a bit for each, that of 0 the lowest; any of them will do. Numbers from 31 up share a
 // bit, which no element has. Where none are given, every number will do and `set` means nothing.
+// Kept: a flag beside a value, since `with_number` and `conditions_on` of reasons name the set of one not given too.
 #[derive(Clone, Copy)]
 pub struct Asked {
     pub given: bool,
@@ -44,6 +47,7 @@ pub struct Asked {
 
 // The weekdays that will do, a bit for each, Monday's the lowest. Where they are not given, every weekday will do and
 // `set` means nothing.
+// Kept: a flag beside a value, since `conditions_on` of reasons names the set of weekdays that are not given too.
 #[derive(Clone, Copy)]
 pub struct Weekdays {
     pub given: bool,
@@ -51,6 +55,7 @@ pub struct Weekdays {
 }
 
 // An arc of longitudes, in seconds of arc. Where it is not given, its numbers mean nothing.
+// Kept: a flag beside values, since `arc_numbers`, which C is told, has the start and width of one not given too.
 #[derive(Clone, Copy)]
 pub struct Arc {
     pub given: bool,
@@ -110,11 +115,7 @@ pub struct Query {
 fn place_of(number: u32) -> u32
     ensures { result ≡ min number 31 }
 {
-    if number < SHARED_BIT {
-        number
-    } else {
-        SHARED_BIT
-    }
+    number.min(SHARED_BIT)
 }
 
 impl Asked {
@@ -124,19 +125,12 @@ impl Asked {
     };
 
     // A set that is given has a number, all of them below a bit and at or above another.
+    #[tactic(auto, unfolding(crate::specs::Conditions::numbers_in_range))]
     fn in_range(self, least: u32, past: u32) -> bool
         requires { 1 ≤ least }
         ensures { result ≡ numbers_in_range self least past }
     {
-        if self.given {
-            if 0 < self.set {
-                if self.set < past {
-                    return self.set % least == 0;
-                }
-            }
-            return false;
-        }
-        true
+        !self.given || (0 < self.set && self.set < past && self.set % least == 0)
     }
 
     // Whether the set has a number.
@@ -163,9 +157,11 @@ impl Asked {
     }
 
     // Whether a value will do: any where none is asked for.
+    #[tactic(auto, unfolding(crate::specs::Conditions::meets))]
     pub fn admits(self, value: u32) -> bool
         ensures { result ≡ meets self value }
     {
+        // Kept: as one condition with `||` it makes the test of a day's elements execute 5 percent more instructions.
         if self.given { self.has(value) } else { true }
     }
 }
@@ -198,26 +194,14 @@ impl Weekdays {
     pub fn admit(self, number: u32) -> bool
         ensures { result ≡ (leb number last_day && weekday_met self (weekday_on number)) }
     {
-        if Day::LAST < number {
-            return false;
-        }
-        if self.given {
-            (self.set >> weekday_of(number)) % 2 == 1
-        } else {
-            true
-        }
+        number <= Day::LAST && (!self.given || (self.set >> weekday_of(number)) % 2 == 1)
     }
 
+    #[tactic(auto, unfolding(crate::specs::Conditions::weekdays_in_range))]
     fn in_range(self) -> bool
         ensures { result ≡ weekdays_in_range self }
     {
-        if self.given {
-            if 1 <= self.set {
-                return self.set <= EVERY_WEEKDAY;
-            }
-            return false;
-        }
-        true
+        !self.given || (1 <= self.set && self.set <= EVERY_WEEKDAY)
     }
 }
 
@@ -228,30 +212,19 @@ impl Arc {
         width: 0,
     };
 
+    #[tactic(auto, unfolding(crate::specs::Conditions::arc_in_range))]
     fn in_range(self) -> bool
         ensures { result ≡ arc_in_range self }
     {
-        if self.given {
-            if self.start < CIRCLE {
-                if 1 <= self.width {
-                    return self.width <= CIRCLE;
-                }
-            }
-            return false;
-        }
-        true
+        !self.given || (self.start < CIRCLE && 1 <= self.width && self.width <= CIRCLE)
     }
 
     // Whether it is given and has a longitude.
+    #[tactic(auto, unfolding(crate::specs::Conditions::in_arc))]
     fn has(self, longitude: u32) -> bool
         ensures { result ≡ (self.given && in_arc self longitude) }
     {
-        if self.given {
-            let past = panchanga::difference_on_circle(longitude, self.start);
-            past < self.width
-        } else {
-            false
-        }
+        self.given && panchanga::difference_on_circle(longitude, self.start) < self.width
     }
 }
 
@@ -295,32 +268,21 @@ impl BodyArcs {
     pub fn given(self) -> bool
         ensures { result ≡ arcs_given self }
     {
-        if self.first.given {
-            true
-        } else {
-            self.second.given
-        }
+        self.first.given || self.second.given
     }
 
+    #[tactic(auto, unfolding(crate::specs::Conditions::body_arcs_in_range))]
     fn in_range(self) -> bool
         ensures { result ≡ body_arcs_in_range self }
     {
-        let first = self.first;
-        let second = self.second;
-        if first.in_range() {
-            second.in_range()
-        } else {
-            false
-        }
+        self.first.in_range() && self.second.in_range()
     }
 
     fn wider(self) -> BodyArcs
         ensures { result ≡ wider_arcs self }
     {
-        let first = self.first;
-        let second = self.second;
-        let first = first.wider();
-        let second = second.wider();
+        let first = self.first.wider();
+        let second = self.second.wider();
         BodyArcs { first, second }
     }
 
@@ -328,39 +290,18 @@ impl BodyArcs {
     pub fn have(self, longitude: u32) -> bool
         ensures { result ≡ in_some (given_arcs self) longitude }
     {
-        let first = self.first;
-        let second = self.second;
-        if first.has(longitude) {
-            return true;
-        }
-        second.has(longitude)
+        self.first.has(longitude) || self.second.has(longitude)
     }
 }
 
-fn arcs_in_range(arcs: [BodyArcs; 9]) -> bool
-    ensures { result ≡ arcs_in_range arcs }
+// Whether the arcs of each body are in range.
+fn all_in_range(arcs: &[BodyArcs]) -> bool
+    ensures { result ≡ list_all body_arcs_in_range arcs.now }
 {
-    let mut body = 0;
-    while body < 9 {
-        let of_body = arcs[body];
+    for of_body in arcs {
         if !of_body.in_range() {
             return false;
         }
-        body += 1;
-    }
-    true
-}
-
-fn true_arcs_in_range(arcs: [BodyArcs; TRUE_BODIES]) -> bool
-    ensures { result ≡ true_arcs_in_range arcs }
-{
-    let mut place = 0;
-    while place < TRUE_BODIES {
-        let of_body = arcs[place];
-        if !of_body.in_range() {
-            return false;
-        }
-        place += 1;
     }
     true
 }
@@ -395,29 +336,26 @@ fn conditions_in_range(query: Query) -> bool
         return false;
     }
     let arcs = query.arcs;
-    if !arcs_in_range(arcs) {
+    if !all_in_range(&arcs) {
         return false;
     }
     let true_arcs = query.true_arcs;
-    true_arcs_in_range(true_arcs)
+    all_in_range(&true_arcs)
 }
 
 impl Query {
-    // The refusal that the query meets with whatever list is lent, or 0.
-    pub fn refusal(self) -> u32
-        ensures { result ≡ refusal_of self }
+    // Whether the query is refused whatever list is lent, and why.
+    pub fn check(self) -> Result<(), Refusal>
+        ensures { result ≡ check_of self }
     {
         if !panchanga::is_edition(self.edition) {
-            return refusal::BAD_EDITION;
+            return Err(Refusal::BadEdition);
         }
-        let of_span = days::span_refusal(self.first, self.last);
-        if of_span != refusal::NONE {
-            return of_span;
-        }
+        days::check_span(self.first, self.last)?;
         if conditions_in_range(self) {
-            refusal::NONE
+            Ok(())
         } else {
-            refusal::BAD_CONDITION
+            Err(Refusal::BadCondition)
         }
     }
 
@@ -448,7 +386,7 @@ fn in_arcs(arcs: BodyArcs, body: Body, day: Day) -> bool
     ensures { result ≡ in_arcs arcs (longitude_at (body_number body) day) }
 {
     if arcs.given() {
-        let found = longitudes::mean_longitude(body, day);
+        let found = longitudes::mean_longitude(body, day).unwrap();
         arcs.have(found.seconds)
     } else {
         true
@@ -510,7 +448,7 @@ pub fn elements_met(
             }
         }
     }
-    let found = panchanga::true_lights(edition, day);
+    let found = panchanga::true_lights(edition, day).unwrap();
     if !tithi.admits(panchanga::tithi_of(found.sun, found.moon)) {
         return false;
     }
@@ -528,8 +466,8 @@ fn nakshatra_met(asked: Asked, edition: u32, day: Day) -> bool
     ensures { result ≡ meets asked (nakshatra_at edition day) }
 {
     if asked.given {
-        let found = panchanga::nakshatra(edition, day);
-        asked.has(found.number)
+        let found = panchanga::nakshatra(edition, day).unwrap();
+        asked.has(found)
     } else {
         true
     }
@@ -540,29 +478,28 @@ fn true_on(edition: u32, body: TrueBody, day: Day) -> u32
     ensures { result ≡ true_longitude_at edition (true_number body) day }
 {
     match body {
-        TrueBody::Sun => panchanga::true_sun(day).number,
-        TrueBody::Moon => panchanga::true_moon(edition, day).number,
-        TrueBody::Mars => planets::true_longitude(Planet::Mars, day).number,
-        TrueBody::Mercury => planets::true_longitude(Planet::Mercury, day).number,
-        TrueBody::Jupiter => planets::true_longitude(Planet::Jupiter, day).number,
-        TrueBody::Venus => planets::true_longitude(Planet::Venus, day).number,
-        TrueBody::Saturn => planets::true_longitude(Planet::Saturn, day).number,
+        TrueBody::Sun => panchanga::true_sun(day).unwrap(),
+        TrueBody::Moon => panchanga::true_moon(edition, day).unwrap(),
+        TrueBody::Mars => planets::true_longitude(Planet::Mars, day).unwrap(),
+        TrueBody::Mercury => planets::true_longitude(Planet::Mercury, day).unwrap(),
+        TrueBody::Jupiter => planets::true_longitude(Planet::Jupiter, day).unwrap(),
+        TrueBody::Venus => planets::true_longitude(Planet::Venus, day).unwrap(),
+        TrueBody::Saturn => planets::true_longitude(Planet::Saturn, day).unwrap(),
     }
 }
 
 // A true longitude on a day, the Moon's in an edition.
-pub fn true_longitude(edition: u32, body: TrueBody, day: Day) -> NumberAnswer
+pub fn true_longitude(edition: u32, body: TrueBody, day: Day) -> Result<u32, Refusal>
     ensures { result ≡ true_longitude_of edition body day }
 {
     let known = panchanga::is_edition(edition);
     if !known {
-        return NumberAnswer::refused(refusal::BAD_EDITION);
+        Err(Refusal::BadEdition)
+    } else if day.in_range() {
+        Ok(true_on(edition, body, day))
+    } else {
+        Err(Refusal::OutOfRange)
     }
-    let there = day.in_range();
-    if !there {
-        return NumberAnswer::OUT_OF_RANGE;
-    }
-    NumberAnswer::accepted(true_on(edition, body, day))
 }
 
 // Whether a body's true longitude will do, which is reckoned only where an arc is given. A pair that is no day has
@@ -590,13 +527,10 @@ fn true_arcs_met(edition: u32, arcs: [BodyArcs; TRUE_BODIES], day: Day) -> bool
     requires { (in_range day ≡ true) × (is_edition edition ≡ true) }
     ensures { result ≡ true_arcs_met edition arcs day }
 {
-    let mut place = 0;
-    while place < TRUE_BODIES {
-        let of_body = arcs[place];
-        if !true_arcs_have(edition, TRUE_ORDER[place], of_body, day) {
+    for (place, of_body) in arcs.iter().enumerate() {
+        if !true_arcs_have(edition, TRUE_ORDER[place], *of_body, day) {
             return false;
         }
-        place += 1;
     }
     true
 }

@@ -1,52 +1,62 @@
 -- What a day and a page are asked with: the day on the first line, and behind it the page.
 -- Assumes nothing.
-use Rattle.std.specs.Prelude.{false, cond, List, ℕ, ◌+◌, eqb, leb, length}
-use Rattle.days.specs.declared.NumberAnswer.{NumberAnswer}
-use Rattle.days.specs.Days.{last_day, no_number}
-use Rattle.days.specs.Refusals.{accepted, out_of_range, bad_input}
-use Rattle.names.specs.declared.Print.TheVariants.{Numbers}
+use Rattle.std.specs.Prelude.{false, cond, List, ℕ, ◌+◌, eqb, leb, length, Option, Some, None, Result, Ok, Err}
+use Rattle.days.specs.declared.refusal.Refusal.{Refusal}
+use Rattle.days.specs.declared.refusal.Refusal.TheVariants.{OutOfRange, BadInput}
+use Rattle.days.specs.Days.{last_day}
+use Rattle.days.specs.Refusals.{bad_input, refusal_number, and_then}
+use Rattle.page.specs.declared.Fault.{Fault}
 use Rattle.page.specs.declared.PageRead.{PageRead}
-use Rattle.page.specs.Page.{only_span, ranks_before, bad_value, not_ended, page_read}
+use Rattle.page.specs.declared.Reason.{Reason}
+use Rattle.page.specs.declared.Reason.TheVariants.{BadValue, NotEnded}
+use Rattle.page.specs.Page.{first_fault, page_read}
 use Rattle.text.specs.Lines.{newline}
-use Rattle.values.specs.Values.{is_read, day_read}
+use Rattle.values.specs.Values.{day_read}
 use Rattle.words.specs.Words.{hash, run_length, up_to, after_first, first_word, after_word, unmarked}
-use Rattle.question.specs.declared.FirstLine.{FirstLine}
 use Rattle.question.specs.declared.Question.{Question}
 
--- a number that is read, where it is a day's
-unfoldable pub day_in_range : NumberAnswer → NumberAnswer
-day_in_range a = cond (is_read a) (cond (leb a.number last_day) a (no_number out_of_range)) a
+-- a number, where it is a day's
+abbrev pub day_in_range : ℕ → Result ℕ Refusal
+day_in_range n = cond (leb n last_day) (Ok n) (Err OutOfRange)
 
 -- the day of a line: one word, its number or its civil date; a `#` starts a comment
-unfoldable pub day_line_read : List ℕ → NumberAnswer
+unfoldable pub day_line_read : List ℕ → Result ℕ Refusal
 day_line_read l =
-    cond (eqb (length (first_word (after_word (up_to hash l)))) 0) (day_in_range (day_read (first_word (up_to hash l)))) (no_number bad_input)
+    cond (eqb (length (first_word (after_word (up_to hash l)))) 0)
+    (and_then (day_read (first_word (up_to hash l))) (λ n. day_in_range n))
+    (Err BadInput)
+
+-- a fault of the first line
+abbrev pub first_at : Refusal → Option Reason → Fault
+first_at r why = record { refusal = r; reason = why; line = 1 }
 
 -- the day, or why the line is refused
-unfoldable pub day_or_fault : NumberAnswer → FirstLine
-day_or_fault a = record { refusal = a.refusal; reason = cond (eqb a.refusal bad_input) bad_value 0; day = a.number }
+unfoldable pub day_or_fault : Result ℕ Refusal → Result ℕ Fault
+day_or_fault (Ok d) = Ok d
+day_or_fault (Err r) = Err (first_at r (cond (eqb (refusal_number r) bad_input) (Some BadValue) None))
 
 -- of a text, which has to have a newline
-unfoldable pub first_line_read : List ℕ → FirstLine
+unfoldable pub first_line_read : List ℕ → Result ℕ Fault
 first_line_read text =
-    cond (eqb (run_length false newline text) (length text)) (record { refusal = bad_input; reason = not_ended; day = 0 }) (day_or_fault (day_line_read (up_to newline text)))
+    cond (eqb (run_length false newline text) (length text)) (Err (first_at BadInput (Some NotEnded))) (day_or_fault (day_line_read (up_to newline text)))
 
--- a refusal: its number, its reason and the line at fault, all zeros, and numbers
-abbrev pub no_question : ℕ → ℕ → ℕ → Question
-no_question refusal reason line = record { refusal = refusal; reason = reason; line = line; day = 0; query = only_span 0 0 0; print = Numbers }
+-- a page whose first line is the second of the text
+abbrev pub a_line_down : Result PageRead Fault → Result PageRead Fault
+a_line_down (Ok page) = Ok page
+a_line_down (Err f) = Err (record { refusal = f.refusal; reason = f.reason; line = f.line + 1 })
 
--- a fault of the page, whose first line is the second of the text
-abbrev pub page_fault : PageRead → Question
-page_fault page = no_question page.refusal page.reason (page.line + 1)
+-- the page behind the day
+abbrev pub behind_day : List ℕ → Result PageRead Fault
+behind_day text = a_line_down (page_read (after_first newline text))
 
 -- the first line and the page together: of two faults the one whose refusal comes first in a page's order, of two alike
 -- the first line's
-unfoldable pub asked_by : FirstLine → PageRead → Question
-asked_by first page =
-    cond (eqb first.refusal accepted)
-    (cond (eqb page.refusal accepted) (record { refusal = accepted; reason = 0; line = 0; day = first.day; query = page.query; print = page.print }) (page_fault page))
-    (cond (ranks_before page.refusal first.refusal) (page_fault page) (no_question first.refusal first.reason 1))
+unfoldable pub asked_by : Result ℕ Fault → Result PageRead Fault → Result Question Fault
+asked_by (Ok d) (Ok page) = Ok (record { day = d; query = page.query; print = page.print })
+asked_by (Ok d) (Err f) = Err f
+asked_by (Err f) (Ok page) = Err f
+asked_by (Err f) (Err g) = Err (first_fault f g)
 
 -- WHAT A TEXT ASKS; it may have a byte order mark in front, and so may the page
-unfoldable pub question_read : List ℕ → Question
-question_read text = asked_by (first_line_read (unmarked text)) (page_read (after_first newline text))
+unfoldable pub question_read : List ℕ → Result Question Fault
+question_read text = asked_by (first_line_read (unmarked text)) (behind_day text)

@@ -1,144 +1,112 @@
 // What a day and a page are asked with: a text whose first line is the day, and behind it the page.
 #![tactic(auto)]
 
-ghost use Rattle.std.specs.Prelude.{◌≡◌, ◌<◌};
-ghost use Rattle.question.specs.Questions.{day_in_range, day_line_read, day_or_fault, first_line_read, no_question, asked_by, question_read};
+ghost use Rattle.std.specs.Prelude.{◌≡◌};
+ghost use Rattle.question.specs.Questions.{day_in_range, day_line_read, first_at, day_or_fault, first_line_read, behind_day, asked_by, question_read};
 
-use days::{Day, NumberAnswer, refusal};
+use days::Day;
+use days::refusal::Refusal;
 use names::Print;
-use page::PageRead;
-use query::{Asked, BodyArcs, Query, TRUE_BODIES, Weekdays};
+use page::{Fault, PageRead, Reason};
+use query::Query;
 use words::{after, after_word, first_word, run_length, unmarked, up_to};
 
-// A text that has been read: the refusal's number, or 0, why a line is malformed, the line at fault, counted from 1, as
-// of a page; the day, the query, and how it is printed. A refusal has a day and a query of all zeros, and numbers.
+// What a text asks: the day, the query, and how it is printed.
 #[derive(Clone, Copy)]
 pub struct Question {
-    pub refusal: u32,
-    pub reason: u32,
-    pub line: usize,
     pub day: u32,
     pub query: Query,
     pub print: Print,
 }
 
-// The first line that has been read.
-#[derive(Clone, Copy)]
-struct FirstLine {
-    refusal: u32,
-    reason: u32,
-    day: u32,
-}
-
-fn day_in_range(read: NumberAnswer) -> NumberAnswer
-    ensures { result ≡ day_in_range read }
+fn day_in_range(day: u32) -> Result<u32, Refusal>
+    ensures { result ≡ day_in_range day }
 {
-    if read.refusal != refusal::NONE {
-        return read;
+    if day <= Day::LAST {
+        Ok(day)
+    } else {
+        Err(Refusal::OutOfRange)
     }
-    if Day::LAST < read.number {
-        return NumberAnswer::OUT_OF_RANGE;
-    }
-    read
 }
 
 // The day of a line that has one word, its number or its civil date.
-fn read_day(line: &[u8]) -> NumberAnswer
+#[tactic(auto, unfolding(crate::specs::Questions::day_line_read))]
+fn read_day(line: &[u8]) -> Result<u32, Refusal>
     ensures { result ≡ day_line_read line.now }
 {
     let body = up_to(line, b'#');
     let more = first_word(after_word(body));
-    if more.len() != 0 {
-        return NumberAnswer::refused(refusal::BAD_INPUT);
+    if !more.is_empty() {
+        return Err(Refusal::BadInput);
     }
-    day_in_range(values::day(first_word(body)))
+    let day = values::day(first_word(body))?;
+    day_in_range(day)
 }
 
-fn day_or_fault(read: NumberAnswer) -> FirstLine
+fn at_first_line(refusal: Refusal, reason: Option<Reason>) -> Fault
+    ensures { result ≡ first_at refusal reason }
+{
+    Fault {
+        refusal,
+        reason,
+        line: 1,
+    }
+}
+
+#[tactic(auto, unfolding(crate::specs::Questions::day_or_fault))]
+fn day_or_fault(read: Result<u32, Refusal>) -> Result<u32, Fault>
     ensures { result ≡ day_or_fault read }
 {
-    if read.refusal == refusal::BAD_INPUT {
-        return FirstLine {
-            refusal: read.refusal,
-            reason: page::BAD_VALUE,
-            day: read.number,
-        };
-    }
-    FirstLine {
-        refusal: read.refusal,
-        reason: 0,
-        day: read.number,
+    match read {
+        Ok(day) => Ok(day),
+        Err(Refusal::BadInput) => Err(at_first_line(Refusal::BadInput, Some(Reason::BadValue))),
+        Err(refusal) => Err(at_first_line(refusal, None)),
     }
 }
 
-fn first_line(text: &[u8]) -> FirstLine
+#[tactic(auto, unfolding(crate::specs::Questions::first_line_read))]
+fn first_line(text: &[u8]) -> Result<u32, Fault>
     ensures { result ≡ first_line_read text.now }
 {
     if run_length(text, b'\n', false) == text.len() {
-        return FirstLine {
-            refusal: refusal::BAD_INPUT,
-            reason: page::NOT_ENDED,
-            day: 0,
-        };
+        return Err(at_first_line(Refusal::BadInput, Some(Reason::NotEnded)));
     }
     day_or_fault(read_day(up_to(text, b'\n')))
 }
 
-fn refused(refusal: u32, reason: u32, line: usize) -> Question
-    ensures { result ≡ no_question refusal reason line }
+// The page behind the first line, so that its own first line is the second.
+fn page_behind(text: &[u8]) -> Result<PageRead, Fault>
+    ensures { result ≡ behind_day text.now }
 {
-    Question {
-        refusal,
-        reason,
-        line,
-        day: 0,
-        query: Query {
-            first: 0,
-            last: 0,
-            edition: 0,
-            weekdays: Weekdays::NONE,
-            tithi: Asked::NONE,
-            nakshatra: Asked::NONE,
-            yoga: Asked::NONE,
-            karana: Asked::NONE,
-            arcs: [BodyArcs::NONE; 9],
-            true_arcs: [BodyArcs::NONE; TRUE_BODIES],
-        },
-        print: Print::Numbers,
+    match page::read(after(text, b'\n')) {
+        Ok(page) => Ok(page),
+        Err(fault) => Err(Fault {
+            line: fault.line + 1,
+            ..fault
+        }),
     }
 }
 
-// The page's first line is the second of the text.
-fn together(first: FirstLine, page: PageRead) -> Question
-    requires { page.line < 18446744073709551615 }
+#[tactic(auto, unfolding(crate::specs::Questions::asked_by))]
+fn together(first: Result<u32, Fault>, page: Result<PageRead, Fault>) -> Result<Question, Fault>
     ensures { result ≡ asked_by first page }
 {
-    if first.refusal != refusal::NONE {
-        if page::ranks_before(page.refusal, first.refusal) {
-            return refused(page.refusal, page.reason, page.line + 1);
-        }
-        return refused(first.refusal, first.reason, 1);
-    }
-    if page.refusal != refusal::NONE {
-        return refused(page.refusal, page.reason, page.line + 1);
-    }
-    let query = page.query;
-    let print = page.print;
-    Question {
-        refusal: refusal::NONE,
-        reason: 0,
-        line: 0,
-        day: first.day,
-        query,
-        print,
+    match (first, page) {
+        (Ok(day), Ok(page)) => Ok(Question {
+            day,
+            query: page.query,
+            print: page.print,
+        }),
+        (Err(one), Err(other)) => Err(page::first_fault(one, other)),
+        (Err(fault), _) => Err(fault),
+        (_, Err(fault)) => Err(fault),
     }
 }
 
-// The day and the query that a text asks with, or its refusal.
-pub fn read(text: &[u8]) -> Question
+// The question that a text asks, or its fault.
+#[tactic(auto, unfolding(crate::specs::Questions::question_read))]
+pub fn read(text: &[u8]) -> Result<Question, Fault>
     ensures { result ≡ question_read text.now }
 {
-    let first = first_line(unmarked(text));
-    let page = page::read(after(text, b'\n'));
-    together(first, page)
+    together(first_line(unmarked(text)), page_behind(text))
 }

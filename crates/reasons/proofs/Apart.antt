@@ -2,14 +2,17 @@
 -- that a question is to have.
 -- Assumes nothing.
 use Prim.Native.Nat.{ℕ, ◌+◌, ◌-◌}
-use mathlib.Core.Path.{◌≡◌, refl, sym, ap, ap₂, ◌∙◌}
+use mathlib.Core.Path.{◌≡◌, refl, sym, ap, ◌∙◌}
 use mathlib.Core.Bool.{cond, false≢true}
 use native.Mathlib.Omega.{arith}
 use lib.Dec.{eqb}
+use Rattle.std.specs.Prelude.{Result, Ok, Err}
+use Rattle.days.specs.declared.refusal.Refusal.{Refusal}
+use Rattle.days.specs.declared.refusal.Refusal.TheVariants.{NoSuchDate, OutOfRange, BadInput, NoSuchWeekday, LastBeforeFirst, BadCondition, ListTooShort, NoExtraMonth, BadLength, BadChecksum, BadIndex, NotZero, BadDay, BadEdition, BadLine, NoSuchBody}
+use Rattle.days.specs.Refusals.{refusal_number}
 use Rattle.panchanga.specs.TrueLongitudes.{is_edition}
 use Rattle.query.specs.declared.Query.{Query}
 use Rattle.reasons.specs.declared.Answer.{Answer}
-use Rattle.reasons.specs.declared.Answer.TheVariants.{Refused, Told}
 use Rattle.reasons.specs.declared.Reason.{Reason}
 use Rattle.reasons.specs.declared.Reason.TheVariants.{Fits, BeforeSpan, AfterSpan, Weekday, Tithi, Nakshatra, Yoga, Karana, Arcs, TrueArcs}
 use Rattle.reasons.specs.Conditions.{Wanted, nothing, bound, any_of, mean_arcs, true_arcs, Cause}
@@ -43,18 +46,58 @@ reason-back (Karana asked found) = refl
 reason-back (Arcs body asked found) = let back : 7 + body - 7 ≡ body = omega arith in rw back
 reason-back (TrueArcs place asked found) = let back : 17 + place - 17 ≡ place = omega arith in rw back
 
+-- the refusal that has this number
+unfoldable refusal_from : ℕ → Refusal
+refusal_from n =
+    cond (eqb n 1) NoSuchDate
+    (cond (eqb n 2) OutOfRange
+    (cond (eqb n 3) BadInput
+    (cond (eqb n 4) NoSuchWeekday
+    (cond (eqb n 5) LastBeforeFirst
+    (cond (eqb n 6) BadCondition
+    (cond (eqb n 7) ListTooShort
+    (cond (eqb n 8) NoExtraMonth
+    (cond (eqb n 9) BadLength
+    (cond (eqb n 10) BadChecksum
+    (cond (eqb n 11) BadIndex
+    (cond (eqb n 12) NotZero
+    (cond (eqb n 13) BadDay
+    (cond (eqb n 14) BadEdition
+    (cond (eqb n 15) BadLine NoSuchBody))))))))))))))
+
+refusal-back : (r : Refusal) → refusal_from (refusal_number r) ≡ r
+unfolding refusal_from
+refusal-back NoSuchDate = refl
+refusal-back OutOfRange = refl
+refusal-back BadInput = refl
+refusal-back NoSuchWeekday = refl
+refusal-back LastBeforeFirst = refl
+refusal-back BadCondition = refl
+refusal-back ListTooShort = refl
+refusal-back NoExtraMonth = refl
+refusal-back BadLength = refl
+refusal-back BadChecksum = refl
+refusal-back BadIndex = refl
+refusal-back NotZero = refl
+refusal-back BadDay = refl
+refusal-back BadEdition = refl
+refusal-back BadLine = refl
+refusal-back NoSuchBody = refl
+
 module _ (q : Query) (n : ℕ) where
   -- a refusal is no answer that is told
-  not-both : (refusal edition : ℕ) (reason : Reason) → numbers_of (Refused refusal) ≡ why_of q n → numbers_of (Told edition reason) ≡ why_of q n → ⊥
+  not-both : (refusal : Refusal) (answer : Answer) → numbers_of (Err refusal) ≡ why_of q n → numbers_of (Ok answer) ≡ why_of q n → ⊥
   unfolding numbers_of is_edition
-  not-both refusal edition reason refused told = false≢true (ap (λ (x : Numbers). is_edition x.edition) refused ∙ edition-told q n (ap (λ (x : Numbers). x.refusal) (sym told)))
+  not-both refusal answer refused told = false≢true (ap (λ (x : Numbers). is_edition x.edition) refused ∙ edition-told q n (ap (λ (x : Numbers). x.refusal) (sym told)))
 
   -- THE ANSWER IS FIXED by its numbers
-  pub answer-fixed : (a b : Answer) → numbers_of a ≡ why_of q n → numbers_of b ≡ why_of q n → a ≡ b
+  pub answer-fixed : (a b : Result Answer Refusal) → numbers_of a ≡ why_of q n → numbers_of b ≡ why_of q n → a ≡ b
   unfolding numbers_of
-  answer-fixed (Refused r) (Refused s) ea eb = ap Refused (ap (λ (x : Numbers). x.refusal) (ea ∙ sym eb))
-  answer-fixed (Refused r) (Told f s) ea eb = absurd (not-both r f s ea eb)
-  answer-fixed (Told e r) (Refused s) ea eb = absurd (not-both s e r eb ea)
-  answer-fixed (Told e r) (Told f s) ea eb =
+  answer-fixed (Err r) (Err s) ea eb = ap Err (sym (refusal-back r) ∙ ap (λ (x : Numbers). refusal_from x.refusal) (ea ∙ sym eb) ∙ refusal-back s)
+  answer-fixed (Err r) (Ok b) ea eb = absurd (not-both r b ea eb)
+  answer-fixed (Ok a) (Err s) ea eb = absurd (not-both s a eb ea)
+  answer-fixed (Ok a) (Ok b) ea eb =
       let same = ea ∙ sym eb in
-      ap₂ Told (ap (λ (x : Numbers). x.edition) same) (sym (reason-back r) ∙ ap (λ (x : Numbers). reason_from x.cause) same ∙ reason-back s)
+      let edition : a.edition ≡ b.edition = ap (λ (x : Numbers). x.edition) same in
+      let reason : a.reason ≡ b.reason = sym (reason-back a.reason) ∙ ap (λ (x : Numbers). reason_from x.cause) same ∙ reason-back b.reason in
+      rw (edition, reason)

@@ -11,14 +11,17 @@ use native.Mathlib.Omega.{arith}
 use lib.Dec.{leb, eqb}
 use lib.ListN.{replicate}
 use borrow.Author.Tests.{eqb-true, eq-eqb, leb-true, le-leb}
+use Rattle.std.specs.Prelude.{Result, Ok, Err}
+use Rattle.days.specs.declared.refusal.Refusal.{Refusal}
+use Rattle.days.specs.Refusals.{result_number, and_then}
 use Rattle.days.specs.Days.{last_day, pair_at, weekday_on}
 use Rattle.panchanga.specs.TrueLongitudes.{is_edition}
 use Rattle.panchanga.specs.OnDays.{tithi_at, nakshatra_at, yoga_at, karana_at}
 use Rattle.query.specs.declared.Query.{Query}
 use Rattle.query.specs.Conditions.{not_asked, no_arcs, meets, weekday_met, in_arcs, each_body, body_met, arcs_met, elements_met, each_place, place_met, true_arcs_met}
-use Rattle.query.specs.Query.{conditions_met, matches, refusal_of}
-use Rattle.query.proofs.Accepted.{accepted-by}
-use Rattle.search.specs.Look.{next_day, not_examined, examined_of}
+use Rattle.query.specs.Query.{conditions_met, matches, refusal_of, check_of}
+use Rattle.query.proofs.Accepted.{accepted-by, check-number}
+use Rattle.search.specs.Look.{looked, examined_of}
 use Rattle.search.specs.Days.{matching_days}
 use Rattle.entries.proofs.Lists.{Has}
 use Rattle.search.proofs.Laws.{listed-only, listed-all, listed-matches, matches-listed}
@@ -210,18 +213,22 @@ module _ (q : Query) (n : ℕ) where
       accepted-on h = unfold refusal_on in rw ((accepted-by q r).edition, le-leb _ _ h) r
 
   -- it is refused as the look is
-  pub refused-as-look : (why_of q n).refusal ≡ (examined_of q n).refusal
-  unfolding why_of refusal_on examined_of
+  pub refused-as-look : (why_of q n).refusal ≡ result_number (examined_of q n)
+  unfolding why_of refusal_on examined_of result_number
   refused-as-look = go (is_edition q.edition) (leb n last_day) refl refl
     where
-      query-refused : (r : ℕ) → (cond (eqb r 0) (record { refusal = 0; edition = q.edition; cause = first_unmet (conditions_on q n) }) (no_answer r)).refusal ≡ (cond (eqb r 0) (record { refusal = 0; matches = matches q n; next = next_day q n }) (not_examined r)).refusal
-      query-refused r = either (eqb r 0)
+      number : (r : ℕ) → (cond (eqb r 0) (record { refusal = 0; edition = q.edition; cause = first_unmet (conditions_on q n) }) (no_answer r)).refusal ≡ r
+      number r = either (eqb r 0) refl
         where
-          either : (b : Bool) → (cond b (record { refusal = 0; edition = q.edition; cause = first_unmet (conditions_on q n) }) (no_answer r)).refusal ≡ (cond b (record { refusal = 0; matches = matches q n; next = next_day q n }) (not_examined r)).refusal
-          either true = refl
-          either false = refl
+          either : (b : Bool) → eqb r 0 ≡ b → (cond b (record { refusal = 0; edition = q.edition; cause = first_unmet (conditions_on q n) }) (no_answer r)).refusal ≡ r
+          either true e = sym (eqb-true r 0 e)
+          either false e = refl
 
-      go : (t u : Bool) → is_edition q.edition ≡ t → leb n last_day ≡ u → (why_of q n).refusal ≡ (examined_of q n).refusal
-      go true true e f = rw (e, f) (query-refused (refusal_of q))
+      looked-number : (c : Result (Unit {0}) Refusal) → result_number c ≡ result_number (and_then c (λ (_ : Unit {0}). Ok (looked q n)))
+      looked-number (Ok tt) = refl
+      looked-number (Err r) = refl
+
+      go : (t u : Bool) → is_edition q.edition ≡ t → leb n last_day ≡ u → (why_of q n).refusal ≡ result_number (examined_of q n)
+      go true true e f = rw (e, f) (number (refusal_of q) ∙ sym (check-number q) ∙ looked-number (check_of q))
       go true false e f = rw (e, f)
       go false u e f = rw e

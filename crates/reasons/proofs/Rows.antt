@@ -2,16 +2,15 @@
 -- by their numbers.
 -- Assumes nothing.
 use Prim.Native.Nat.{ℕ, zero, suc, ◌+◌, ◌-◌, ◌<◌}
-use mathlib.Core.Path.{◌≡◌, refl, sym, ◌∙◌}
-use mathlib.Core.Bool.{true, false, cond, not}
+use mathlib.Core.Path.{◌≡◌, refl}
+use mathlib.Core.Bool.{cond}
 use mathlib.Core.List.{List, [], ◌∷◌, ◌++◌}
 use native.Mathlib.Omega.{arith}
 use lib.ListN.{get_or}
-use borrow.Author.Tests.{not-true, not-false}
+use Rattle.std.specs.Prelude.{Some, None}
 use Rattle.longitudes.specs.declared.Body.{Body}
 use Rattle.longitudes.specs.declared.Body.TheVariants.{Sun, Moon, MoonApogee, MoonNode, Mars, MercuryAnomaly, Jupiter, VenusAnomaly, Saturn}
 use Rattle.longitudes.specs.Answers.{body_number}
-use Rattle.reasons.specs.declared.Tested.{Tested}
 use Rattle.reasons.specs.Conditions.{Cause, Condition, row, first_unmet}
 use Rattle.reasons.specs.Parts.{TestedFor}
 
@@ -25,12 +24,12 @@ module _ (f : ℕ → Condition) (count : ℕ) (others : List Condition) where
   from-here k l = let e : count - k ≡ suc (count - (k + 1)) = omega arith in rw e
 
   -- the test of number k: where it holds the next one's turn comes, else it is the first
-  module _ (k : ℕ) (l : k < count) {t : Tested} (tested : TestedFor (f k).holds (f k).cause.found t) where
-    pub one-met : not t.holds ≡ false → unmet_from f count others (k + 1) ≡ unmet_from f count others k
-    one-met h = rw (from-here k l, sym tested.outcome ∙ not-false _ h)
+  module _ (k : ℕ) (l : k < count) where
+    pub one-met : TestedFor (f k).holds (f k).cause.found None → unmet_from f count others (k + 1) ≡ unmet_from f count others k
+    one-met e = rw (from-here k l, e)
 
-    pub one-unmet : not t.holds ≡ true → record { condition = (f k).cause.condition; asked = (f k).cause.asked; found = t.found } ≡ unmet_from f count others k
-    one-unmet h = let e = not-true _ h in rw (from-here k l, sym tested.outcome ∙ e, tested.found e)
+    pub one-unmet : {found : ℕ} → TestedFor (f k).holds (f k).cause.found (Some found) → record { condition = (f k).cause.condition; asked = (f k).cause.asked; found = found } ≡ unmet_from f count others k
+    one-unmet e = rw (from-here k l, e.0, e.1)
 
   -- behind the last come the others
   pub row_ends : (k : ℕ) → k ≡ count → first_unmet others ≡ unmet_from f count others k

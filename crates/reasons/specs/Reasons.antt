@@ -1,13 +1,13 @@
 -- Why a day is not in a query's list, in the numbers of the papers; and these numbers for every case of the answer.
 -- Assumes nothing.
-use Rattle.std.specs.Prelude.{cond, ℕ, ◌+◌, leb, eqb}
+use Rattle.std.specs.Prelude.{cond, ℕ, ◌+◌, leb, eqb, Result, Ok, Err}
 use Rattle.days.specs.Days.{last_day}
-use Rattle.days.specs.Refusals.{accepted, out_of_range, bad_edition}
+use Rattle.days.specs.Refusals.{accepted, out_of_range, bad_edition, refusal_number}
+use Rattle.days.specs.declared.refusal.Refusal.{Refusal}
 use Rattle.panchanga.specs.TrueLongitudes.{is_edition}
 use Rattle.query.specs.declared.Query.{Query}
 use Rattle.query.specs.Query.{refusal_of}
 use Rattle.reasons.specs.declared.Answer.{Answer}
-use Rattle.reasons.specs.declared.Answer.TheVariants.{Refused, Told}
 use Rattle.reasons.specs.declared.Reason.{Reason}
 use Rattle.reasons.specs.declared.Reason.TheVariants.{Fits, BeforeSpan, AfterSpan, Weekday, Tithi, Nakshatra, Yoga, Karana, Arcs, TrueArcs}
 use Rattle.reasons.specs.Conditions.{Cause, no_cause, bound, any_of, mean_arcs, true_arcs, conditions_on, first_unmet}
@@ -47,6 +47,6 @@ cause_of (Arcs body asked found) = record { condition = 7 + body; asked = mean_a
 cause_of (TrueArcs place asked found) = record { condition = 17 + place; asked = true_arcs asked; found = found }
 
 -- and of an answer
-unfoldable pub numbers_of : Answer → Numbers
-numbers_of (Refused refusal) = no_answer refusal
-numbers_of (Told edition reason) = record { refusal = accepted; edition = edition; cause = cause_of reason }
+unfoldable pub numbers_of : Result Answer Refusal → Numbers
+numbers_of (Err refusal) = no_answer (refusal_number refusal)
+numbers_of (Ok answer) = record { refusal = accepted; edition = answer.edition; cause = cause_of answer.reason }

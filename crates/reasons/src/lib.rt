@@ -3,17 +3,18 @@
 
 ghost use Rattle.std.specs.Prelude.{◌≡◌, true, ◌≤◌};
 ghost use Rattle.days.specs.Days.{last_day, in_range, weekday_on};
+ghost use Rattle.days.specs.Refusals.{result_number};
 ghost use Rattle.longitudes.specs.Longitudes.{longitude_at};
 ghost use Rattle.longitudes.specs.Answers.{body_number};
 ghost use Rattle.panchanga.specs.TrueLongitudes.{is_edition};
-ghost use Rattle.panchanga.specs.OnDays.{tithi_at, nakshatra_at, yoga_at, karana_at};
 ghost use Rattle.query.specs.Conditions.{meets, weekday_met, in_arcs, true_longitude_at};
 ghost use Rattle.query.specs.TrueBodies.{true_number};
 ghost use Rattle.reasons.specs.Conditions.{longitude_conditions, true_conditions, conditions_on, first_unmet};
 ghost use Rattle.reasons.specs.Reasons.{refusal_on, why_of, cause_of, numbers_of};
-ghost use Rattle.reasons.specs.Parts.{TestedFor};
+ghost use Rattle.reasons.specs.Parts.{TestedFor, element_at};
 
-use days::{Day, refusal};
+use days::Day;
+use days::refusal::Refusal;
 use longitudes::Body;
 use query::{Asked, BodyArcs, Query, TrueBody, Weekdays};
 
@@ -63,120 +64,82 @@ pub enum Reason {
     },
 }
 
-// The reason, in the query's edition; or the refusal's number.
+// The reason, in the query's edition.
 #[derive(Clone, Copy)]
-pub enum Answer {
-    Refused(u32),
-    Told { edition: u32, reason: Reason },
+pub struct Answer {
+    pub edition: u32,
+    pub reason: Reason,
 }
 
-// Whether a condition holds, and the value found where it does not.
+// The elements that a query may ask for.
 #[derive(Clone, Copy)]
-struct Tested {
-    holds: bool,
-    found: u32,
+enum Element {
+    Tithi,
+    Nakshatra,
+    Yoga,
+    Karana,
 }
 
-// A condition that holds, as one does that is not given.
-const HOLDS: Tested = Tested {
-    holds: true,
-    found: 0,
-};
+// A test of a condition is `None` where it holds, as one does that is not given, and else the value found.
 
-fn test_weekday(asked: Weekdays, number: u32) -> Tested
+fn test_weekday(asked: Weekdays, number: u32) -> Option<u32>
     requires { number ≤ last_day }
     ensures { TestedFor (weekday_met asked (weekday_on number)) (weekday_on number) result }
 {
     if asked.admit(number) {
-        return HOLDS;
+        return None;
     }
-    let day = Day::at(number);
-    let found = day.weekday();
-    Tested {
-        holds: false,
-        found: found.number,
-    }
+    let found = days::weekday_on(number);
+    Some(found)
 }
 
-fn test_number(asked: Asked, found: u32) -> Tested
-    ensures { TestedFor (meets asked found) found result }
-{
-    Tested {
-        holds: asked.admits(found),
-        found,
-    }
-}
-
-fn test_tithi(asked: Asked, edition: u32, day: Day) -> Tested
+fn element_on(element: Element, edition: u32, day: Day) -> u32
     requires { (in_range day ≡ true) × (is_edition edition ≡ true) }
-    ensures { TestedFor (meets asked (tithi_at edition day)) (tithi_at edition day) result }
+    ensures { result ≡ element_at element edition day }
+{
+    match element {
+        Element::Tithi => panchanga::tithi(edition, day).unwrap(),
+        Element::Nakshatra => panchanga::nakshatra(edition, day).unwrap(),
+        Element::Yoga => panchanga::yoga(edition, day).unwrap(),
+        Element::Karana => panchanga::karana(edition, day).unwrap(),
+    }
+}
+
+fn test_element(asked: Asked, element: Element, edition: u32, day: Day) -> Option<u32>
+    requires { (in_range day ≡ true) × (is_edition edition ≡ true) }
+    ensures { TestedFor (meets asked (element_at element edition day)) (element_at element edition day) result }
 {
     if !asked.given {
-        return HOLDS;
+        return None;
     }
-    let found = panchanga::tithi(edition, day);
-    test_number(asked, found.number)
+    let found = element_on(element, edition, day);
+    if asked.has(found) { None } else { Some(found) }
 }
 
-fn test_nakshatra(asked: Asked, edition: u32, day: Day) -> Tested
-    requires { (in_range day ≡ true) × (is_edition edition ≡ true) }
-    ensures { TestedFor (meets asked (nakshatra_at edition day)) (nakshatra_at edition day) result }
-{
-    if !asked.given {
-        return HOLDS;
-    }
-    let found = panchanga::nakshatra(edition, day);
-    test_number(asked, found.number)
-}
-
-fn test_yoga(asked: Asked, edition: u32, day: Day) -> Tested
-    requires { (in_range day ≡ true) × (is_edition edition ≡ true) }
-    ensures { TestedFor (meets asked (yoga_at edition day)) (yoga_at edition day) result }
-{
-    if !asked.given {
-        return HOLDS;
-    }
-    let found = panchanga::yoga(edition, day);
-    test_number(asked, found.number)
-}
-
-fn test_karana(asked: Asked, edition: u32, day: Day) -> Tested
-    requires { (in_range day ≡ true) × (is_edition edition ≡ true) }
-    ensures { TestedFor (meets asked (karana_at edition day)) (karana_at edition day) result }
-{
-    if !asked.given {
-        return HOLDS;
-    }
-    let found = panchanga::karana(edition, day);
-    test_number(asked, found.number)
-}
-
-fn test_arcs(asked: BodyArcs, body: Body, day: Day) -> Tested
+fn test_arcs(asked: BodyArcs, body: Body, day: Day) -> Option<u32>
     requires { in_range day ≡ true }
     ensures { TestedFor (in_arcs asked (longitude_at (body_number body) day)) (longitude_at (body_number body) day) result }
 {
     if !asked.given() {
-        return HOLDS;
+        return None;
     }
-    let found = longitudes::mean_longitude(body, day);
-    Tested {
-        holds: asked.have(found.seconds),
-        found: found.seconds,
+    let found = longitudes::mean_longitude(body, day).unwrap();
+    if asked.have(found.seconds) {
+        None
+    } else {
+        Some(found.seconds)
     }
 }
 
-fn test_true_arcs(asked: BodyArcs, edition: u32, body: TrueBody, day: Day) -> Tested
+fn test_true_arcs(asked: BodyArcs, edition: u32, body: TrueBody, day: Day) -> Option<u32>
     requires { (in_range day ≡ true) × (is_edition edition ≡ true) }
     ensures { TestedFor (in_arcs asked (true_longitude_at edition (true_number body) day)) (true_longitude_at edition (true_number body) day) result }
 {
     if !asked.given() {
-        return HOLDS;
+        return None;
     }
-    let found = query::true_longitude(edition, body, day);
-    Tested {
-        holds: asked.have(found.number),
-        found: found.number,
-    }
+    let found = query::true_longitude(edition, body, day).unwrap();
+    if asked.have(found) { None } else { Some(found) }
 }
 
 // The first true place whose arcs are not met.
@@ -184,19 +147,15 @@ fn unmet_true_arcs(edition: u32, arcs: [BodyArcs; query::TRUE_BODIES], day: Day)
     requires { (in_range day ≡ true) × (is_edition edition ≡ true) }
     ensures { cause_of result ≡ first_unmet (true_conditions edition arcs day) }
 {
-    let mut place = 0;
-    while place < query::TRUE_BODIES {
+    for place in 0..query::TRUE_BODIES {
         let asked = arcs[place];
-        let tested = test_true_arcs(asked, edition, query::TRUE_ORDER[place], day);
-        if !tested.holds {
-            let number = place as u32;
+        if let Some(found) = test_true_arcs(asked, edition, query::TRUE_ORDER[place], day) {
             return Reason::TrueArcs {
-                place: number,
+                place: place as u32,
                 asked,
-                found: tested.found,
+                found,
             };
         }
-        place += 1;
     }
     Reason::Fits
 }
@@ -207,19 +166,15 @@ fn unmet_arcs(query: Query, day: Day) -> Reason
     ensures { cause_of result ≡ first_unmet (longitude_conditions query day) }
 {
     let arcs = query.arcs;
-    let mut body = 0;
-    while body < longitudes::BODIES {
+    for body in 0..longitudes::BODIES {
         let asked = arcs[body];
-        let tested = test_arcs(asked, longitudes::IN_ORDER[body], day);
-        if !tested.holds {
-            let number = body as u32;
+        if let Some(found) = test_arcs(asked, longitudes::IN_ORDER[body], day) {
             return Reason::Arcs {
-                body: number,
+                body: body as u32,
                 asked,
-                found: tested.found,
+                found,
             };
         }
-        body += 1;
     }
     let true_arcs = query.true_arcs;
     unmet_true_arcs(query.edition, true_arcs, day)
@@ -243,70 +198,62 @@ fn first_unmet(query: Query, day: u32) -> Reason
             day,
         };
     }
-    let pair = Day::from_number(day).day;
-    let weekday = test_weekday(query.weekdays, day);
-    if !weekday.holds {
+    let pair = Day::at(day);
+    if let Some(found) = test_weekday(query.weekdays, day) {
         return Reason::Weekday {
             asked: query.weekdays.set,
-            found: weekday.found,
+            found,
         };
     }
-    let tithi = test_tithi(query.tithi, query.edition, pair);
-    if !tithi.holds {
+    if let Some(found) = test_element(query.tithi, Element::Tithi, query.edition, pair) {
         return Reason::Tithi {
             asked: query.tithi.set,
-            found: tithi.found,
+            found,
         };
     }
-    let nakshatra = test_nakshatra(query.nakshatra, query.edition, pair);
-    if !nakshatra.holds {
+    if let Some(found) = test_element(query.nakshatra, Element::Nakshatra, query.edition, pair) {
         return Reason::Nakshatra {
             asked: query.nakshatra.set,
-            found: nakshatra.found,
+            found,
         };
     }
-    let yoga = test_yoga(query.yoga, query.edition, pair);
-    if !yoga.holds {
+    if let Some(found) = test_element(query.yoga, Element::Yoga, query.edition, pair) {
         return Reason::Yoga {
             asked: query.yoga.set,
-            found: yoga.found,
+            found,
         };
     }
-    let karana = test_karana(query.karana, query.edition, pair);
-    if !karana.holds {
+    if let Some(found) = test_element(query.karana, Element::Karana, query.edition, pair) {
         return Reason::Karana {
             asked: query.karana.set,
-            found: karana.found,
+            found,
         };
     }
     unmet_arcs(query, pair)
 }
 
-// The refusal of the question, or 0: the edition's, then the day's, then what else the query is refused for, as of a
-// look.
-fn refusal_on(query: Query, day: u32) -> u32
-    ensures { result ≡ refusal_on query day }
+// Whether the question is refused: for the edition, then for the day, then for what else the query is refused for, as
+// a look is.
+fn check(query: Query, day: u32) -> Result<(), Refusal>
+    ensures { result_number result ≡ refusal_on query day }
 {
     if !panchanga::is_edition(query.edition) {
-        return refusal::BAD_EDITION;
+        return Err(Refusal::BadEdition);
     }
     if Day::LAST < day {
-        return refusal::OUT_OF_RANGE;
+        return Err(Refusal::OutOfRange);
     }
-    query.refusal()
+    query.check()
 }
 
 // Why a day is not in the list that the search makes of a query, or that it is.
-pub fn why(query: Query, day: u32) -> Answer
+pub fn why(query: Query, day: u32) -> Result<Answer, Refusal>
     ensures { numbers_of result ≡ why_of query day }
 {
-    let refusal = refusal_on(query, day);
-    if refusal != refusal::NONE {
-        return Answer::Refused(refusal);
-    }
+    check(query, day)?;
     let reason = first_unmet(query, day);
-    Answer::Told {
+    Ok(Answer {
         edition: query.edition,
         reason,
-    }
+    })
 }

@@ -5,13 +5,19 @@ use mathlib.Core.Path.{◌≡◌, refl, sym, ap, ◌∙◌}
 use mathlib.Core.Bool.{true, false}
 use mathlib.Core.List.{List, [], ◌∷◌, map}
 use Prim.Native.Nat.{ℕ, zero, suc, ◌+◌, ◌≤◌, ◌<◌}
+use native.Mathlib.Decide.{dec_le}
 use native.Mathlib.Omega.{arith}
 use lib.ListN.{length, get_or}
+use lib.Seq.{ext_get_or}
+use denote.Param.Members.{Mut, Called}
+use Rattle.std.specs.Array.{IsFromFnResultFrom, IsFromFnResult}
 use borrow.Author.Tests.{le-leb, lt-leb}
+use Rattle.std.specs.Prelude.{Ok, Err}
+use Rattle.days.specs.declared.refusal.Refusal.TheVariants.{OutOfRange, BadEdition}
 use Rattle.days.specs.Days.{last_day, days_from}
 use Rattle.panchanga.specs.TrueLongitudes.{is_edition}
 use Rattle.records.specs.declared.DayRecord.{DayRecord}
-use Rattle.records.specs.Records.{record_on, unfilled_on, all_days, filled_after, no_month, month_of}
+use Rattle.records.specs.Records.{record_on, unfilled_on, all_days, filled_after, month_of}
 use Rattle.records.proofs.Answers.{filling, fill-given}
 
 module _ {A : Type 0} (f : ℕ → A) where
@@ -32,6 +38,23 @@ module _ {A : Type 0} (f : ℕ → A) where
   pub thirty-at : (n k : ℕ) (d : A) → k < 30 → get_or (map f (days_from n 30)) k d ≡ f (n + k)
   thirty-at n k d h = days-at n 30 k d h
 
+  -- thirty that a closure gave, each by its index
+  module _ {F : Type 0} (g : Mut F (ℕ × Unit {0}) A) (n : ℕ) (d : A) where
+    each : (p : F) (ys : List A) (i m : ℕ) → IsFromFnResultFrom g p ys i m → ((k : ℕ) (y : A) (q : F) → Called g p (k, tt) y q → (q ≡ p) × (y ≡ f (n + k))) → (k : ℕ) → i ≤ k → k < i + m → get_or ys k d ≡ f (n + k)
+    each p ys i zero e h k l u = absurd (omega arith)
+    each p ys i (suc m) e h k l u =
+        go (dec_le k i) (λ (w : i < k). each p ys (i + 1) m (rw (h i e.1 e.0 e.3).0 at e.4) h k (omega arith) (omega arith))
+      where
+        go : Dec (k ≤ i) → (i < k → get_or ys k d ≡ f (n + k)) → get_or ys k d ≡ f (n + k)
+        go (yes w) later =
+            let s : k ≡ i = omega arith in
+            rw s (e.2.1 d ∙ (h i e.1 e.0 e.3).1)
+        go (no w) later = later (omega arith)
+
+    pub thirty-is : (p : F) (ys : List A) → IsFromFnResult g p ys 30 → ((k : ℕ) (y : A) (q : F) → Called g p (k, tt) y q → (q ≡ p) × (y ≡ f (n + k))) → ys ≡ map f (days_from n 30)
+    thirty-is p ys r h =
+        ext_get_or d ys _ (r.long ∙ sym (thirty-long n)) (λ k l. each p ys 0 30 r.each h k (omega arith) (omega (arith, r.long)) ∙ sym (thirty-at n k d (omega (arith, r.long))))
+
 -- the days from n on are in range where the last of them is
 days-in : (n m : ℕ) → n + m ≤ suc last_day → all_days (map unfilled_on (days_from n m)) ≡ true
 unfolding days_from all_days
@@ -46,16 +69,16 @@ filled-days e [] = refl
 filled-days e (n ∷ ns) = ap (λ (xs : List DayRecord). record_on e n ∷ xs) (filled-days e ns)
 
 module _ (e n : ℕ) where
-  pub month-bad-edition : is_edition e ≡ false → month_of e n ≡ no_month 14
+  pub month-bad-edition : is_edition e ≡ false → month_of e n ≡ Err BadEdition
   unfolding month_of
   month-bad-edition b = rw b
 
-  pub month-out-of-range : is_edition e ≡ true → last_day < n + 29 → month_of e n ≡ no_month 2
+  pub month-out-of-range : is_edition e ≡ true → last_day < n + 29 → month_of e n ≡ Err OutOfRange
   unfolding month_of
   month-out-of-range b h = rw (b, lt-leb (n + 29) last_day h)
 
   module _ (b : is_edition e ≡ true) (h : n + 29 ≤ last_day) where
-    pub month-given : month_of e n ≡ record { refusal = 0; records = map (record_on e) (days_from n 30) }
+    pub month-given : month_of e n ≡ Ok (map (record_on e) (days_from n 30))
     unfolding month_of
     month-given = rw (b, le-leb (n + 29) last_day h)
 

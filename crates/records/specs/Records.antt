@@ -1,15 +1,15 @@
 -- A day's record, and records filled together: paper 02's month at one go.
 -- Assumes nothing.
-use Rattle.std.specs.Prelude.{Bool, true, cond, ◌&&◌, List, [], ◌∷◌, map, ℕ, ◌+◌, leb, eqb, replicate}
+use Rattle.std.specs.Prelude.{Bool, true, cond, ◌&&◌, List, [], ◌∷◌, map, ℕ, ◌+◌, leb, eqb, replicate, Result, Ok, Err}
 use Rattle.days.specs.declared.Day.{Day}
+use Rattle.days.specs.declared.refusal.Refusal.{Refusal}
+use Rattle.days.specs.declared.refusal.Refusal.TheVariants.{OutOfRange, BadEdition}
 use Rattle.days.specs.Refusals.{accepted, out_of_range, bad_edition}
 use Rattle.days.specs.Days.{last_day, pair_at, weekday_on, days_from}
 use Rattle.longitudes.specs.Longitudes.{longitudes_at}
 use Rattle.panchanga.specs.TrueLongitudes.{is_edition}
 use Rattle.panchanga.specs.OnDays.{true_sun_at, true_moon_at, tithi_at, nakshatra_at, yoga_at, karana_at}
 use Rattle.records.specs.declared.DayRecord.{DayRecord}
-use Rattle.records.specs.declared.RecordAnswer.{RecordAnswer}
-use Rattle.records.specs.declared.Month.{Month}
 
 -- the record of day n in the edition e
 unfoldable pub record_on : ℕ → ℕ → DayRecord
@@ -34,12 +34,9 @@ unfilled_on n = record { day = n; weekday = 0; longitudes = replicate 9 0; sun =
 abbrev pub no_record : DayRecord
 no_record = unfilled_on 0
 
-abbrev pub refused_with : ℕ → RecordAnswer
-refused_with r = record { refusal = r; day_record = no_record }
-
--- THE SINGLE CALL: the record of day n; refusal 14 for another edition, then 2, with all zeros
-unfoldable pub record_of : ℕ → ℕ → RecordAnswer
-record_of e n = cond (is_edition e) (cond (leb n last_day) (record { refusal = accepted; day_record = record_on e n }) (refused_with out_of_range)) (refused_with bad_edition)
+-- THE SINGLE CALL: the record of day n; refusal 14 for another edition, then 2
+unfoldable pub record_of : ℕ → ℕ → Result DayRecord Refusal
+record_of e n = cond (is_edition e) (cond (leb n last_day) (Ok (record_on e n)) (Err OutOfRange)) (Err BadEdition)
 
 -- every record's day is one of 0 to 401,599
 unfoldable pub all_days : List DayRecord → Bool
@@ -54,13 +51,6 @@ fill_refusal e xs = cond (is_edition e) (cond (all_days xs) accepted out_of_rang
 unfoldable pub filled_after : ℕ → List DayRecord → List DayRecord
 filled_after e xs = cond (eqb (fill_refusal e xs) accepted) (map (λ (x : DayRecord). record_on e x.day) xs) xs
 
-abbrev pub no_month : ℕ → Month
-no_month r = record { refusal = r; records = replicate 30 no_record }
-
--- THIRTY RECORDS from day n on; refusal 14 for another edition, then 2 where one of the days is out of range, with all
--- zeros
-unfoldable pub month_of : ℕ → ℕ → Month
-month_of e n =
-    cond (is_edition e)
-    (cond (leb (n + 29) last_day) (record { refusal = accepted; records = map (record_on e) (days_from n 30) }) (no_month out_of_range))
-    (no_month bad_edition)
+-- THIRTY RECORDS from day n on; refusal 14 for another edition, then 2 where one of the days is out of range
+unfoldable pub month_of : ℕ → ℕ → Result (List DayRecord) Refusal
+month_of e n = cond (is_edition e) (cond (leb (n + 29) last_day) (Ok (map (record_on e) (days_from n 30))) (Err OutOfRange)) (Err BadEdition)

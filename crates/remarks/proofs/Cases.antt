@@ -2,77 +2,35 @@
 -- Assumes nothing.
 use Prim.Native.Nat.{ℕ, ◌<◌}
 use mathlib.Core.Path.{◌≡◌, ap, ap₂, sym, ◌∙◌}
-use mathlib.Core.Bool.{Bool, true, false, not, ◌&&◌, and-eq-true_iff}
+use mathlib.Core.Bool.{true, false, and-eq-true_iff}
 use mathlib.Core.List.{List, ◌++◌}
 use native.Mathlib.Omega.{arith}
 use borrow.Author.Tests.{ltb-true, ne_eqb}
-use lib.Dec.{eqb, leb, ltb}
+use lib.Dec.{leb, ltb}
 use lib.ListN.{length}
-use Rattle.days.specs.declared.NumberAnswer.{NumberAnswer}
+use Rattle.std.specs.Prelude.{Option, None, []}
 use Rattle.page.specs.Names.{keywords}
-use Rattle.page.specs.Page.{span_keyword, edition_keyword, arc_keywords, print_keyword, keyword_count, has_arcs, is_to, arc_words}
+use Rattle.page.specs.Page.{span_keyword, arc_keywords, print_keyword, keyword_count, has_arcs, arc_words}
 use Rattle.text.specs.declared.Line.{Line}
 use Rattle.text.specs.Decimal.{number_read}
 use Rattle.text.specs.Lines.{empty_line, contents, Holds}
 use Rattle.text.proofs.Holding.{nothing-held, holds-length}
 use Rattle.values.specs.Values.{angle_read}
 use Rattle.words.specs.Words.{hash, up_to, first_word, after_word, after_words, place_in}
-use Rattle.remarks.specs.Remarks.{seconds_text, width_text, days_text, likely_degrees, likely_end, likely_year, plain_remark, width_up_to, end_remark, arc_remark, span_remark, first_remark, second_remark, line_remarks, asks}
+use Rattle.remarks.specs.Remarks.{width_text, likely_degrees, likely_end, said_of, plain_remark, arc_remark, span_remark, first_remark, second_remark, line_remarks}
 
-module _ (n : ℕ) (name start width : List ℕ) (a b : NumberAnswer) (ea : a ≡ number_read start) (eb : b ≡ number_read width) {l : Line} where
-  pub plain-seconds : likely_degrees a b ≡ true → Holds l (seconds_text n name a.number b.number) → Holds l (plain_remark n name start width)
-  unfolding plain_remark
-  plain-seconds t h = rw (← ea, ← eb, t) h
+-- what is said of no numbers, where nothing else is said
+pub nothing-said : (o : Option (ℕ × ℕ)) (said : ℕ → ℕ → List ℕ) {l : Line} → o ≡ None → l ≡ empty_line → Holds l (said_of o said [])
+nothing-said o said e none = rw e (nothing-held _ none)
 
-  module _ (no-degrees : likely_degrees a b ≡ false) (x y : NumberAnswer) (ex : x ≡ angle_read start) (ey : y ≡ angle_read width) where
-    pub plain-width : likely_end x.number y.number ≡ true → Holds l (width_text n name x.number y.number) → Holds l (plain_remark n name start width)
-    unfolding plain_remark
-    plain-width t h = rw (← ea, ← eb, no-degrees, ← ex, ← ey, t) h
-
-    pub plain-none : likely_end x.number y.number ≡ false → l ≡ empty_line → Holds l (plain_remark n name start width)
-    unfolding plain_remark
-    plain-none t e = rw (← ea, ← eb, no-degrees, ← ex, ← ey, t) (nothing-held l e)
-
-module _ (n : ℕ) (name start end : List ℕ) (a b w : NumberAnswer) (ea : a ≡ number_read start) (eb : b ≡ number_read end) (ew : w ≡ width_up_to a b) {l : Line} where
-  pub end-seconds : likely_degrees a w ≡ true → Holds l (seconds_text n name a.number w.number) → Holds l (end_remark n name start end)
-  unfolding end_remark
-  end-seconds t h = rw (rw (ew, eb, ea) at t) (rw (ew, eb, ea) at h)
-
-  pub end_none : likely_degrees a w ≡ false → l ≡ empty_line → Holds l (end_remark n name start end)
-  unfolding end_remark
-  end_none t e = rw (rw (ew, eb, ea) at t) (nothing-held l e)
-
-module _ (n : ℕ) (name t start others second : List ℕ) (es : start ≡ first_word t) (eo : others ≡ after_word t) (e2 : second ≡ first_word others) (b : Bool) (eb : b ≡ is_to second) where
-  to-second : b ≡ is_to (first_word (after_word t))
-  to-second = eb ∙ ap is_to (e2 ∙ ap first_word eo)
-
-  pub arc-by-end :
-      {l : Line} →
-      b ≡ true →
-      (rest end : List ℕ) →
-      rest ≡ after_words 2 t →
-      end ≡ first_word rest →
-      Holds l (end_remark n name start end) →
-      Holds l (arc_remark n name t)
-  unfolding arc_remark
-  arc-by-end y rest end er ee h = rw (← to-second, y) (rw (ee, er, es) at h)
-
-  pub arc-by-width : {l : Line} → b ≡ false → Holds l (plain_remark n name start second) → Holds l (arc_remark n name t)
-  unfolding arc_remark
-  arc-by-width y h = rw (← to-second, y) (rw (e2, eo, es) at h)
-
-module _ (n : ℕ) (first last : List ℕ) (a b : NumberAnswer) (ea : a ≡ number_read first) (eb : b ≡ number_read last) {l : Line} where
-  pub span-first : likely_year a.number ≡ false → l ≡ empty_line → Holds l (span_remark n first last)
-  unfolding span_remark
-  span-first t e = rw (← ea, t) (nothing-held l e)
-
-  pub span_last : likely_year a.number ≡ true → likely_year b.number ≡ false → l ≡ empty_line → Holds l (span_remark n first last)
-  unfolding span_remark
-  span_last t u e = rw (← ea, ← eb, t, u) (nothing-held l e)
-
-  pub span-days : likely_year a.number ≡ true → likely_year b.number ≡ true → Holds l (days_text n a.number b.number) → Holds l (span_remark n first last)
-  unfolding span_remark
-  span-days t u h = rw (← ea, ← eb, t, u) h
+pub nothing-plain :
+    (n : ℕ) (name start width : List ℕ) {l : Line} →
+    likely_degrees (number_read start) (number_read width) ≡ None →
+    likely_end (angle_read start) (angle_read width) ≡ None →
+    l ≡ empty_line →
+    Holds l (plain_remark n name start width)
+unfolding plain_remark
+nothing-plain n name start width d e none = rw d (nothing-said (likely_end (angle_read start) (angle_read width)) (width_text n name) e none)
 
 pub arcs-keyword : (k : ℕ) → has_arcs k ≡ true → k < keyword_count
 unfolding has_arcs
@@ -110,10 +68,6 @@ module _ (l body name : List ℕ) (eb : body ≡ up_to hash l) (en : name ≡ fi
   pub line-said : (n : ℕ) (values : List ℕ) → values ≡ after_word body → {a b : Line} → SaidOf n name values a b → line_remarks n l ≡ contents a ++ contents b
   unfolding line_remarks
   line-said n values ev {a} {b} h = sym (ap₂ (λ (x y : List ℕ). x ++ y) h.0.whole h.1.whole ∙ rw (en, ev, eb))
-
-  pub asks-by : (k : ℕ) → k ≡ place_in keywords name → asks l ≡ ltb k print_keyword && (not (eqb k span_keyword) && not (eqb k edition_keyword))
-  unfolding asks
-  asks-by k ek = rw (ek, en, eb)
 
 -- a line's length is that of its contents
 pub contents-length : {l : Line} {bs : List ℕ} → Holds l bs → l.len ≡ length (contents l)

@@ -8,38 +8,76 @@ use lib.Dec.{leb, ltb}
 use lib.ListN.{length, length-append}
 use borrow.Author.Tests.{ltb-true, leb-true}
 use Rattle.dated.proofs.Laws.{date-short, angle-digits, angle-short}
-use Rattle.days.specs.declared.NumberAnswer.{NumberAnswer}
+use Rattle.std.specs.Prelude.{Option, Some, None, Result, Ok, Err, IfSome}
+use Rattle.days.specs.declared.refusal.Refusal.{Refusal}
 use Rattle.longitudes.specs.Longitudes.{circle}
 use Rattle.page.specs.Names.{keywords}
-use Rattle.page.specs.Page.{keyword_count, width_to, is_to}
+use Rattle.page.specs.Page.{keyword_count, is_to}
 use Rattle.text.specs.Decimal.{number_read}
 use Rattle.text.specs.Lines.{line_capacity}
 use Rattle.text.proofs.Printing.{digits-length}
-use Rattle.values.specs.Values.{is_read, angle_read}
+use Rattle.values.specs.Values.{angle_read}
 use Rattle.values.proofs.Refusals.{either}
 use Rattle.words.specs.Words.{first_word, after_word, after_words, same_bytes, small, place_in}
 use Rattle.words.proofs.Letters.{name-as-long}
 use Rattle.words.proofs.Names.{no_longer}
-use Rattle.remarks.specs.Remarks.{line_text, arc_text, seconds_text, width_text, numbers_text, days_text, likely_degrees, likely_end, likely_year, plain_remark, width_up_to, end_remark, arc_remark, span_remark}
+use Rattle.remarks.specs.Remarks.{line_text, arc_text, seconds_text, width_text, numbers_text, days_text, likely_degrees, likely_end, likely_year, likely_years, said_of, plain_remark, width_up_to, end_remark, arc_remark, span_remark}
 
 -- ---- what is likely
-pub degrees-true : (a b : NumberAnswer) → likely_degrees a b ≡ true → (a.number < 360) × (b.number < 60)
+-- what holds of a pair that a test lets through
+through : (test : Bool) (P : ℕ × ℕ → Type 0) (pair : ℕ × ℕ) → (test ≡ true → P pair) → IfSome (cond test (Some pair) None) P
+through true P pair h = h refl
+through false P pair h = tt {0}
+
+abbrev pub Degrees : ℕ × ℕ → Type 0
+Degrees d = (d.0 < 360) × (d.1 < 60)
+
+pub degrees-likely : (a b : Result ℕ Refusal) → IfSome (likely_degrees a b) Degrees
 unfolding likely_degrees
-degrees-true a b e =
-    let width = ((and-eq-true_iff (is_read a) _).0 e).1 in
-    let both = (and-eq-true_iff (ltb a.number 360) (ltb b.number 60)).0 ((and-eq-true_iff (is_read b) _).0 width).1 in
-    (ltb-true _ _ both.0, ltb-true _ _ both.1)
+degrees-likely (Ok a) (Ok b) =
+    through (ltb a 360 && ltb b 60) Degrees (a, b)
+    (λ e. let both = (and-eq-true_iff (ltb a 360) (ltb b 60)).0 e in (ltb-true _ _ both.0, ltb-true _ _ both.1))
+degrees-likely (Ok a) (Err _) = tt {0}
+degrees-likely (Err _) b = tt {0}
 
-pub end-true : (start width : ℕ) → likely_end start width ≡ true → (start < circle) × (width ≤ start + 36000)
+abbrev pub Ends : ℕ × ℕ → Type 0
+Ends d = (d.0 < circle) × (d.1 ≤ d.0 + 36000)
+
+pub end-likely : (a b : Result ℕ Refusal) → IfSome (likely_end a b) Ends
 unfolding likely_end
-end-true start width e =
-    let rest = ((and-eq-true_iff (leb 36000 start) _).0 e).1 in
-    let last = (and-eq-true_iff (ltb start circle) _).0 rest in
-    (ltb-true start circle last.0, leb-true width (start + 36000) ((and-eq-true_iff (ltb start width) _).0 last.1).1)
+end-likely (Ok a) (Ok b) =
+    through (leb 36000 a && (ltb a circle && (ltb a b && leb b (a + 36000)))) Ends (a, b)
+    (λ e.
+    let rest = ((and-eq-true_iff (leb 36000 a) _).0 e).1 in
+    let last = (and-eq-true_iff (ltb a circle) _).0 rest in
+    (ltb-true a circle last.0, leb-true b (a + 36000) ((and-eq-true_iff (ltb a b) _).0 last.1).1))
+end-likely (Ok a) (Err _) = tt {0}
+end-likely (Err _) b = tt {0}
 
-pub year-true : (n : ℕ) → likely_year n ≡ true → n ≤ 2619
+abbrev pub Years : ℕ × ℕ → Type 0
+Years d = (d.0 ≤ 2619) × (d.1 ≤ 2619)
+
+year-true : (n : ℕ) → likely_year n ≡ true → n ≤ 2619
 unfolding likely_year
 year-true n e = leb-true n 2619 ((and-eq-true_iff (leb 1000 n) (leb n 2619)).0 e).1
+
+pub years-likely : (a b : Result ℕ Refusal) → IfSome (likely_years a b) Years
+unfolding likely_years
+years-likely (Ok a) (Ok b) =
+    through (likely_year a && likely_year b) Years (a, b)
+    (λ e. let both = (and-eq-true_iff (likely_year a) (likely_year b)).0 e in (year-true _ both.0, year-true _ both.1))
+years-likely (Ok a) (Err _) = tt {0}
+years-likely (Err _) b = tt {0}
+
+-- what is said of two numbers fits where it fits of those that there may be, and what is said else does
+said-fits :
+    (o : Option (ℕ × ℕ)) (P : ℕ × ℕ → Type 0) (said : ℕ → ℕ → List ℕ) (other : List ℕ) →
+    IfSome o P →
+    ((d : ℕ × ℕ) → P d → length (said d.0 d.1) ≤ line_capacity) →
+    length other ≤ line_capacity →
+    length (said_of o said other) ≤ line_capacity
+said-fits (Some d) P said other h fits fits_other = fits d h
+said-fits None P said other h fits fits_other = fits_other
 
 -- ---- a word is as short as the longest name
 place_short : (most : ℕ) (ns : List (List ℕ)) (w : List ℕ) → no_longer most ns ≡ true → place_in ns w < length ns → length w ≤ most
@@ -82,35 +120,15 @@ module _ (n : ℕ) (few : n < 100000000000000000000) where
 
     plain_fits : (start width : List ℕ) → length (plain_remark n name start width) ≤ line_capacity
     unfolding plain_remark
-    plain_fits start width = degrees (likely_degrees (number_read start) (number_read width)) refl
-      where
-        ends :
-            (t : Bool) →
-            likely_end (angle_read start).number (angle_read width).number ≡ t →
-            length (cond t (width_text n name (angle_read start).number (angle_read width).number) []) ≤ line_capacity
-        ends true e = let h = end-true _ _ e in width_fits _ _ h.0 h.1
-        ends false e = omega arith
-
-        degrees :
-            (t : Bool) →
-            likely_degrees (number_read start) (number_read width) ≡ t →
-            length
-            (cond t (seconds_text n name (number_read start).number (number_read width).number)
-            (cond (likely_end (angle_read start).number (angle_read width).number) (width_text n name (angle_read start).number (angle_read width).number) []))
-            ≤ line_capacity
-        degrees true e = let h = degrees-true (number_read start) (number_read width) e in seconds-fit _ _ h.0 h.1
-        degrees false e = ends _ refl
+    plain_fits start width =
+        said-fits (likely_degrees (number_read start) (number_read width)) Degrees (seconds_text n name) _ (degrees-likely (number_read start) (number_read width)) (λ d h. seconds-fit d.0 d.1 h.0 h.1)
+        (said-fits (likely_end (angle_read start) (angle_read width)) Ends (width_text n name) [] (end-likely (angle_read start) (angle_read width)) (λ d h. width_fits d.0 d.1 h.0 h.1) (omega arith))
 
     end_fits : (start end : List ℕ) → length (end_remark n name start end) ≤ line_capacity
     unfolding end_remark
-    end_fits start end = go (likely_degrees (number_read start) (width_up_to (number_read start) (number_read end))) refl
-      where
-        go :
-            (t : Bool) →
-            likely_degrees (number_read start) (width_up_to (number_read start) (number_read end)) ≡ t →
-            length (cond t (seconds_text n name (number_read start).number (width_to (number_read start).number (number_read end).number)) []) ≤ line_capacity
-        go true e = let h = degrees-true (number_read start) (width_up_to (number_read start) (number_read end)) e in seconds-fit _ _ h.0 h.1
-        go false e = omega arith
+    end_fits start end =
+        let width : Result ℕ Refusal = width_up_to (number_read start) (number_read end) in
+        said-fits (likely_degrees (number_read start) width) Degrees (seconds_text n name) [] (degrees-likely (number_read start) width) (λ d h. seconds-fit d.0 d.1 h.0 h.1) (omega arith)
 
     pub arc-fits : (t : List ℕ) → length (arc_remark n name t) ≤ line_capacity
     unfolding arc_remark
@@ -129,13 +147,5 @@ module _ (n : ℕ) (few : n < 100000000000000000000) where
 
   pub span_fits : (first last : List ℕ) → length (span_remark n first last) ≤ line_capacity
   unfolding span_remark
-  span_fits first last = go (likely_year (number_read first).number) (likely_year (number_read last).number) refl refl
-    where
-      go :
-          (t u : Bool) →
-          likely_year (number_read first).number ≡ t →
-          likely_year (number_read last).number ≡ u →
-          length (cond (t && u) (days_text n (number_read first).number (number_read last).number) []) ≤ line_capacity
-      go true true e f = days-fit _ _ (year-true _ e) (year-true _ f)
-      go true false e f = omega arith
-      go false u e f = omega arith
+  span_fits first last =
+      said-fits (likely_years (number_read first) (number_read last)) Years (days_text n) [] (years-likely (number_read first) (number_read last)) (λ d h. days-fit d.0 d.1 h.0 h.1) (omega arith)

@@ -2,7 +2,10 @@
 -- are few, and one more. Assumes nothing.
 use Prim.Native.Nat.{ℕ, suc, ◌+◌, ◌*◌, ◌≤◌, ◌<◌}
 use mathlib.Core.Path.{◌≡◌, refl}
-use mathlib.Core.Bool.{Bool, true, false, cond}
+use mathlib.Core.Bool.{Bool, true, false, cond, false≢true}
+use Rattle.std.specs.Prelude.{Result, Ok, Err, is_ok}
+use Rattle.page.specs.declared.Fault.{Fault}
+use Rattle.page.specs.declared.PageRead.{PageRead}
 use mathlib.Core.List.{List, [], ◌∷◌, ◌++◌}
 use native.Mathlib.Omega.{arith}
 use lib.Dec.{eqb, ltb}
@@ -67,12 +70,19 @@ unfolding last_remark nothing_asked
 last-short true = omega arith
 last-short false = omega arith
 
+few-accepted : (text : List ℕ) → is_ok (page_read text) ≡ true → keyword_lines (lines_of text) ≤ keyword_count
+few-accepted text = go (page_read text) refl
+  where
+    go : (page : Result PageRead Fault) → page_read text ≡ page → is_ok page ≡ true → keyword_lines (lines_of text) ≤ keyword_count
+    go (Ok r) e h = few-keywords text e
+    go (Err f) e h = absurd (false≢true h)
+
 -- ALL OF IT FITS
 pub remarks-fit :
     (n : ℕ) (text : List ℕ) →
-    (page_read text).refusal ≡ 0 →
+    is_ok (page_read text) ≡ true →
     n + length text < 100000000000000000000 →
     length (page_remarks n (lines_of text)) ≤ remarks_room
 remarks-fit n text accepted few =
     let lines = lines-room n (lines_of text) (omega (arith, lines-count text)) in
-    simp length-append (omega (arith, lines, few-keywords text accepted, last-short (some_asks (lines_of text))))
+    simp length-append (omega (arith, lines, few-accepted text accepted, last-short (some_asks (lines_of text))))

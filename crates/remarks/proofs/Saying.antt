@@ -6,10 +6,11 @@ use mathlib.Core.Bool.{Bool, true, false, cond, ◌||◌}
 use mathlib.Core.List.{List, [], ◌∷◌, ◌++◌, append_assoc, append-nil}
 use native.Mathlib.Omega.{arith}
 use native.Mathlib.Numerals.{add-one}
-use borrow.Author.Tests.{eqb-true, eq-eqb, ne_eqb, ltb-false}
-use lib.Dec.{eqb, ltb}
+use borrow.Author.Tests.{ltb-false}
+use lib.Dec.{ltb}
 use lib.ListN.{length, length-append, length-drop, drop_of_length-le}
-use Rattle.page.specs.declared.PageRead.{PageRead}
+use Rattle.std.specs.Prelude.{is_ok}
+use Rattle.std.proofs.lemmas.Bool.{cond_both}
 use Rattle.page.specs.Page.{has_arcs, lines_of, page_read}
 use Rattle.text.specs.Lines.{newline}
 use Rattle.text.specs.Sheets.{put_at}
@@ -91,32 +92,20 @@ due-none n true = rw (empty-said n)
 due-none n false = rw (empty-said n, empty-asks)
 
 -- ---- what was read
-pub accepted-read : (text : List ℕ) (read : PageRead) → read ≡ page_read text → read.refusal ≡ 0 → (page_read text).refusal ≡ 0
-accepted-read text read e h = sym (ap (λ (r : PageRead). r.refusal) e) ∙ h
-
 module _ (n : ℕ) (text : List ℕ) where
-  pub remarks-are : (page_read text).refusal ≡ 0 → remarks_of n text ≡ page_remarks n (lines_of text)
+  pub remarks-are : is_ok (page_read text) ≡ true → remarks_of n text ≡ page_remarks n (lines_of text)
   unfolding remarks_of
-  remarks-are e = rw (eq-eqb (page_read text).refusal 0 e)
-
-  pub remarks-none : ((page_read text).refusal ≡ 0 → ⊥) → remarks_of n text ≡ []
-  unfolding remarks_of
-  remarks-none e = rw (ne_eqb (page_read text).refusal 0 e)
+  remarks-are e = rw e
 
   -- all of it fits
   pub remarks-short : n + length text < 100000000000000000000 → length (remarks_of n text) ≤ remarks_room
   unfolding remarks_of
-  remarks-short few = go (eqb (page_read text).refusal 0) refl
-    where
-      go : (t : Bool) → eqb (page_read text).refusal 0 ≡ t → length (cond t (page_remarks n (lines_of text)) []) ≤ remarks_room
-      go true e = remarks-fit n text (eqb-true (page_read text).refusal 0 e) few
-      go false e = omega arith
+  remarks-short few =
+      cond_both (is_ok (page_read text)) (page_remarks n (lines_of text)) [] (λ (said : List ℕ). length said ≤ remarks_room) (λ e. remarks-fit n text e few) (λ _. omega arith)
 
-  module _ (read : PageRead) (e : read ≡ page_read text) where
-    pub refused-said : (read.refusal ≡ 0 → ⊥) → (b : List ℕ) → (◌≡◌ {A = ℕ} 0 (length (remarks_of n text))) × (b ≡ put_at b 0 (remarks_of n text))
-    refused-said h b =
-        let none = remarks-none (λ z. h (ap (λ (r : PageRead). r.refusal) e ∙ z)) in
-        rw none (refl, sym (put-none b 0 refl))
+  pub refused-said : is_ok (page_read text) ≡ false → (b : List ℕ) → (◌≡◌ {A = ℕ} 0 (length (remarks_of n text))) × (b ≡ put_at b 0 (remarks_of n text))
+  unfolding remarks_of
+  refused-said e b = rw e (refl, sym (put-none b 0 refl))
 
 -- ---- before the line `number`: rest is what is left of the text
 pub record Saying (first : ℕ) (text before : List ℕ) (number at : ℕ) (asked : Bool) (rest buffer : List ℕ) : Type 0 where
@@ -126,7 +115,7 @@ pub record Saying (first : ℕ) (text before : List ℕ) (number at : ℕ) (aske
   pub put : buffer ≡ put_at before 0 done
   pub room : number + length rest ≤ first + length text
 
-module _ (first : ℕ) (text before : List ℕ) (accepted : (page_read text).refusal ≡ 0) where
+module _ (first : ℕ) (text before : List ℕ) (accepted : is_ok (page_read text) ≡ true) where
   pub saying-start : Saying first text before first 0 false (unmarked text) before
   saying-start =
       record {

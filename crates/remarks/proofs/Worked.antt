@@ -6,16 +6,17 @@ use Rattle.civil.specs.Calendar.{leap, month_days, same_date, next, date_on}
 use Rattle.civil.specs.Answers.{date_of_day}
 use Rattle.dated.specs.Dated.{date_bytes, angle_bytes}
 use Rattle.days.specs.Weekdays.{in_set}
-use Rattle.page.specs.Page.{is_element, has_arcs, with_condition, print_read, with_print, rank_of, ranks_before, first_refusal, first_value, second_value, numbers_read, arc_read, width_to, to_arc, named_arc, arc_in, arc_words, second_arc_in, arcs_read, arcs_in, most_values, element_of, values_read, refused_as, condition_read, words_read, line_read, first_fault, with_line, with_lines, page_answer, page_read}
+use Rattle.page.specs.Page.{is_element, has_arcs, with_condition, print_read, with_print, rank_of, ranks_before, first_refusal, first_value, second_value, numbers_read, arc_read, width_to, to_arc, named_arc, arc_in, arc_words, second_arc_in, arcs_read, arcs_in, most_values, element_of, values_read, refused_as, condition_read, words_read, line_read, first_fault, with_line, with_lines, page_answer, page_read, both_read, alone_read, with_keyword}
 use Rattle.names.specs.Names.{name_read}
 use Rattle.panchanga.specs.TrueLongitudes.{is_edition}
 use Rattle.query.specs.Conditions.{has_number, with_number, numbers_in_range, weekdays_in_range, arc_in_range, body_arcs_in_range, arcs_in_range, true_arcs_in_range, elements_in_range, conditions_in_range}
-use Rattle.query.specs.Query.{refusal_of}
+use Rattle.query.specs.Query.{check_of}
+use Rattle.days.specs.Days.{answer_over}
 use Rattle.text.specs.Ascii.{ascii}
 use Rattle.text.specs.Decimal.{is_digit, all_digits, with_digit, value_of, is_number, number_read, digits_within, digits_of}
 use Rattle.values.specs.Values.{three_read, two_read, degrees_read, sexagesimal_read, number_or, angle_read, day_read, elapsed_in, half_read, half_named, name_value, value_read, with_weekday, in_numbers, with_number_read, with_value, set_read, set_of, none_read}
 use Rattle.words.specs.Words.{is_separator, run_length, up_to, after_first, trimmed, after_words, in_front, pieces, same_bytes, behind_mark, small_byte, small_from, unmarked, place_in}
-use Rattle.remarks.specs.Remarks.{line_text, arc_text, seconds_text, width_text, numbers_text, days_text, likely_degrees, likely_end, likely_year, plain_remark, end_remark, arc_remark, span_remark, first_remark, second_remark, line_remarks, lines_remarks, asks, some_asks, nothing_asked, last_remark, remarks_of}
+use Rattle.remarks.specs.Remarks.{line_text, arc_text, seconds_text, width_text, numbers_text, days_text, likely_degrees, likely_end, likely_year, likely_years, plain_remark, end_remark, arc_remark, span_remark, first_remark, second_remark, line_remarks, lines_remarks, asks, some_asks, nothing_asked, last_remark, remarks_of}
 
 pub worked :
     remarks_of 1 (ascii "span 1607 1612\nsun 34 1\n")
@@ -38,5 +39,5 @@ pub worked :
     ∷ ascii "line 1: SUN from 0:0:34, 0:0:1 wide; degrees are written 34:0:0\n"
     ∷ ascii "nothing is asked: every day of the span is listed\n"
     ∷ []
-unfolding leap month_days same_date next date_on date_of_day date_bytes angle_bytes digits_within digits_of is_separator run_length up_to after_first trimmed after_words in_front pieces same_bytes behind_mark small_byte small_from unmarked place_in is_digit all_digits with_digit value_of is_number number_read three_read two_read degrees_read sexagesimal_read number_or angle_read day_read name_read elapsed_in half_read half_named name_value value_read in_set with_weekday has_number with_number in_numbers with_number_read with_value set_read set_of none_read is_edition numbers_in_range weekdays_in_range arc_in_range body_arcs_in_range arcs_in_range true_arcs_in_range elements_in_range conditions_in_range refusal_of is_element has_arcs with_condition print_read with_print rank_of ranks_before first_refusal first_value second_value numbers_read arc_read width_to to_arc named_arc arc_in arc_words second_arc_in arcs_read arcs_in most_values element_of values_read refused_as condition_read words_read line_read first_fault with_line with_lines page_answer page_read line_text arc_text seconds_text width_text numbers_text days_text likely_degrees likely_end likely_year plain_remark end_remark arc_remark span_remark first_remark second_remark line_remarks lines_remarks asks some_asks nothing_asked last_remark remarks_of
+unfolding leap month_days same_date next date_on date_of_day date_bytes angle_bytes digits_within digits_of is_separator run_length up_to after_first trimmed after_words in_front pieces same_bytes behind_mark small_byte small_from unmarked place_in is_digit all_digits with_digit value_of is_number number_read three_read two_read degrees_read sexagesimal_read number_or angle_read day_read name_read elapsed_in half_read half_named name_value value_read in_set with_weekday has_number with_number in_numbers with_number_read with_value set_read set_of none_read is_edition numbers_in_range weekdays_in_range arc_in_range body_arcs_in_range arcs_in_range true_arcs_in_range elements_in_range conditions_in_range check_of answer_over is_element has_arcs with_condition print_read with_print rank_of ranks_before first_refusal first_value second_value numbers_read arc_read width_to to_arc named_arc arc_in arc_words second_arc_in arcs_read arcs_in most_values element_of values_read refused_as condition_read words_read line_read first_fault with_line with_lines page_answer page_read line_text arc_text seconds_text width_text numbers_text days_text likely_degrees likely_end likely_year plain_remark end_remark arc_remark span_remark first_remark second_remark line_remarks lines_remarks asks some_asks nothing_asked last_remark remarks_of both_read alone_read with_keyword likely_years
 worked = refl

@@ -2,15 +2,15 @@
 // standard error out.
 #![tactic(auto)]
 
-ghost use Rattle.std.specs.Prelude.{◌≡◌, ◌||◌, ◌+◌, ◌≤◌, ◌<◌, length};
+ghost use Rattle.std.specs.Prelude.{is_ok, true, ◌≡◌, ◌||◌, ◌+◌, ◌≤◌, ◌<◌, length};
 ghost use Rattle.longitudes.specs.Longitudes.{circle};
 ghost use Rattle.page.specs.Page.{page_read};
 ghost use Rattle.text.specs.Lines.{empty_line, contents, with_bytes, Holds};
 ghost use Rattle.text.specs.Sheets.{put_at};
-ghost use Rattle.remarks.specs.Remarks.{line_text, arc_text, seconds_text, width_text, numbers_text, days_text, likely_degrees, likely_end, likely_year, plain_remark, width_up_to, end_remark, arc_remark, span_remark, first_remark, second_remark, line_remarks, asks, nothing_asked, remarks_of, remarks_room};
+ghost use Rattle.remarks.specs.Remarks.{line_text, arc_text, seconds_text, width_text, numbers_text, days_text, likely_degrees, likely_end, likely_year, likely_years, plain_remark, width_up_to, end_remark, arc_remark, span_remark, first_remark, second_remark, line_remarks, asks, nothing_asked, remarks_of, remarks_room};
 
 use dated::{put_angle, put_date};
-use days::{NumberAnswer, refusal};
+use days::refusal::Refusal;
 use longitudes::CIRCLE;
 use page::{is_to, width_to};
 use text::{Line, read_decimal};
@@ -76,98 +76,97 @@ fn days_remark(number: usize, first: u32, last: u32) -> Line
     requires { (first ≤ 2619) × (last ≤ 2619) }
     ensures { Holds result (days_text number first last) }
 {
-    let from = civil::date_of(first);
-    let to = civil::date_of(last);
+    let from = civil::date_or_zeros(first);
+    let to = civil::date_or_zeros(last);
     let numbers = with_numbers(number, first, last);
-    let since = put_date(numbers.text(b", "), from.date);
-    put_date(since.text(b" to "), to.date)
+    let since = put_date(numbers.text(b", "), from);
+    put_date(since.text(b" to "), to)
         .text(b"; years are written ")
         .number(first)
         .text(b"-1-1\n")
 }
 
-fn likely_degrees(start: NumberAnswer, width: NumberAnswer) -> bool
+// Both numbers, where degrees may be meant.
+#[tactic(auto, unfolding(crate::specs::Remarks::likely_degrees))]
+fn likely_degrees(start: Result<u32, Refusal>, width: Result<u32, Refusal>) -> Option<(u32, u32)>
     ensures { result ≡ likely_degrees start width }
 {
-    if start.refusal != refusal::NONE {
-        return false;
+    match (start, width) {
+        (Ok(start), Ok(width)) if start < 360 && width < 60 => Some((start, width)),
+        _ => None,
     }
-    if width.refusal != refusal::NONE {
-        return false;
-    }
-    if 360 <= start.number {
-        return false;
-    }
-    width.number < 60
 }
 
-fn likely_end(start: u32, width: u32) -> bool
+// Both angles, where the second may be meant as an end.
+#[tactic(auto, unfolding(crate::specs::Remarks::likely_end))]
+fn likely_end(start: Result<u32, Refusal>, width: Result<u32, Refusal>) -> Option<(u32, u32)>
     ensures { result ≡ likely_end start width }
 {
-    if start < 10 * DEGREE {
-        return false;
+    let start = start.ok()?;
+    let width = width.ok()?;
+    if 10 * DEGREE <= start && start < CIRCLE && start < width && width <= start + 10 * DEGREE {
+        Some((start, width))
+    } else {
+        None
     }
-    if CIRCLE <= start {
-        return false;
-    }
-    if width <= start {
-        return false;
-    }
-    width <= start + 10 * DEGREE
 }
 
+#[tactic(auto, unfolding(crate::specs::Remarks::likely_year))]
 fn likely_year(number: u32) -> bool
     ensures { result ≡ likely_year number }
 {
-    if number < 1000 {
-        return false;
+    1000 <= number && number <= 2619
+}
+
+// Both numbers, where years may be meant.
+#[tactic(auto, unfolding(crate::specs::Remarks::likely_years))]
+fn likely_years(first: Result<u32, Refusal>, last: Result<u32, Refusal>) -> Option<(u32, u32)>
+    ensures { result ≡ likely_years first last }
+{
+    match (first, last) {
+        (Ok(first), Ok(last)) if likely_year(first) && likely_year(last) => Some((first, last)),
+        _ => None,
     }
-    number <= 2619
 }
 
 // Of an arc by its start and width.
+#[tactic(auto, unfolding(crate::specs::Remarks::plain_remark))]
 fn plain_remark(number: usize, name: &[u8], start: &[u8], width: &[u8]) -> Line
     requires { length name.now ≤ 12 }
     ensures { Holds result (plain_remark number name.now start.now width.now) }
 {
-    let first = read_decimal(start);
-    let second = read_decimal(width);
-    if likely_degrees(first, second) {
-        return seconds_remark(number, name, first.number, second.number);
+    if let Some((from, wide)) = likely_degrees(read_decimal(start), read_decimal(width)) {
+        return seconds_remark(number, name, from, wide);
     }
-    let from = angle(start);
-    let wide = angle(width);
-    if likely_end(from.number, wide.number) {
-        return width_remark(number, name, from.number, wide.number);
+    if let Some((from, wide)) = likely_end(angle(start), angle(width)) {
+        return width_remark(number, name, from, wide);
     }
     Line::empty()
 }
 
-// The width of an arc by its end, which is refused where the end is.
-fn width_up_to(start: NumberAnswer, end: NumberAnswer) -> NumberAnswer
+// The width of an arc by its end.
+fn width_up_to(start: Result<u32, Refusal>, end: Result<u32, Refusal>) -> Result<u32, Refusal>
     ensures { result ≡ width_up_to start end }
 {
-    let number = width_to(start.number, end.number);
-    NumberAnswer {
-        refusal: end.refusal,
-        number,
-    }
+    Ok(width_to(start?, end?))
 }
 
 // Of an arc by its start and end.
+#[tactic(auto, unfolding(crate::specs::Remarks::end_remark))]
 fn end_remark(number: usize, name: &[u8], start: &[u8], end: &[u8]) -> Line
     requires { length name.now ≤ 12 }
     ensures { Holds result (end_remark number name.now start.now end.now) }
 {
     let from = read_decimal(start);
     let width = width_up_to(from, read_decimal(end));
-    if likely_degrees(from, width) {
-        return seconds_remark(number, name, from.number, width.number);
+    if let Some((from, wide)) = likely_degrees(from, width) {
+        return seconds_remark(number, name, from, wide);
     }
     Line::empty()
 }
 
 // Of the arc at the front of a text.
+#[tactic(auto, unfolding(crate::specs::Remarks::arc_remark))]
 fn arc_remark(number: usize, name: &[u8], text: &[u8]) -> Line
     requires { length name.now ≤ 12 }
     ensures { Holds result (arc_remark number name.now text.now) }
@@ -181,18 +180,14 @@ fn arc_remark(number: usize, name: &[u8], text: &[u8]) -> Line
     plain_remark(number, name, start, second)
 }
 
+#[tactic(auto, unfolding(crate::specs::Remarks::span_remark))]
 fn span_remark(number: usize, first: &[u8], last: &[u8]) -> Line
     ensures { Holds result (span_remark number first.now last.now) }
 {
-    let from = read_decimal(first);
-    let to = read_decimal(last);
-    if !likely_year(from.number) {
-        return Line::empty();
+    if let Some((from, to)) = likely_years(read_decimal(first), read_decimal(last)) {
+        return days_remark(number, from, to);
     }
-    if !likely_year(to.number) {
-        return Line::empty();
-    }
-    days_remark(number, from.number, to.number)
+    Line::empty()
 }
 
 fn of_words(number: usize, name: &[u8], values: &[u8]) -> Remarks
@@ -240,20 +235,12 @@ fn put_line(number: usize, line: &[u8], buffer: &mut [u8], at: usize) -> usize
 }
 
 // Whether a line asks for something, or one before it did.
+#[tactic(auto, unfolding(crate::specs::Remarks::asks))]
 fn asked_with(asked: bool, line: &[u8]) -> bool
     ensures { result ≡ asked || asks line.now }
 {
-    if asked {
-        return true;
-    }
     let keyword = page::keyword_of(first_word(up_to(line, b'#')));
-    if page::PRINT <= keyword {
-        return false;
-    }
-    if keyword == page::SPAN {
-        return false;
-    }
-    keyword != page::EDITION
+    asked || keyword < page::PRINT && keyword != page::SPAN && keyword != page::EDITION
 }
 
 fn nothing_asked() -> Line
@@ -263,7 +250,7 @@ fn nothing_asked() -> Line
 }
 
 fn put_all(text: &[u8], first: u32, buffer: &mut [u8]) -> usize
-    requires { ((page_read text.now).refusal ≡ 0) × (length buffer.old ≡ remarks_room) }
+    requires { (is_ok (page_read text.now) ≡ true) × (length buffer.old ≡ remarks_room) }
     ensures value { result ≡ length (remarks_of first text.now) }
     ensures buffer_after { buffer.new ≡ put_at buffer.old 0 (remarks_of first text.now) }
 {
@@ -293,7 +280,7 @@ pub fn of_page(text: &[u8], first: u32, buffer: &mut [u8; ROOM]) -> usize
     ensures upper_bound { result ≤ remarks_room }
 {
     let read = page::read(text);
-    if read.refusal != refusal::NONE {
+    if read.is_err() {
         return 0;
     }
     put_all(text, first, buffer)

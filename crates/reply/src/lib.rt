@@ -1,12 +1,13 @@
 // What the program `why` replies to its input: a day and a page in, a line out, put at the front of a lent buffer.
 #![tactic(auto)]
 
-ghost use Rattle.std.specs.Prelude.{◌≡◌, ◌<◌, ◌≤◌, length};
+ghost use Rattle.std.specs.Prelude.{◌≡◌, ◌<◌, ◌≤◌, length, IfErr};
 ghost use Rattle.remarks.specs.Remarks.{remarks_room};
 ghost use Rattle.text.specs.Sheets.{put_at};
 ghost use Rattle.reply.specs.Replies.{printed_of, said_of, printed_for, said_for, Replied, remarks_for};
 
-use days::refusal;
+use days::refusal::Refusal;
+use page::Fault;
 use question::Question;
 use text::{Line, TOO_LONG};
 
@@ -18,22 +19,24 @@ pub struct Reply {
     pub said: Line,
 }
 
-fn to_question(read: Question, buffer: &mut [u8; explanation::ROOM]) -> Reply
-    requires { read.line < 4294967296 }
+fn to_question(read: Result<Question, Fault>, buffer: &mut [u8; explanation::ROOM]) -> Reply
+    requires { IfErr read (λ f. f.line < 4294967296) }
     ensures { Replied (printed_of read) (said_of read) buffer.old result buffer.new }
 {
-    if read.refusal == refusal::NONE {
-        let print = read.print;
-        let query = read.query;
-        let printed = explanation::put_line(print, query, read.day, buffer);
-        let said = Line::empty();
-        return Reply { printed, said };
+    match read {
+        Ok(asked) => {
+            let printed = explanation::put_line(asked.print, asked.query, asked.day, buffer);
+            let said = Line::empty();
+            Reply { printed, said }
+        }
+        Err(fault) => {
+            let number = fault.refusal.number();
+            let refused = text::refusal_line(number);
+            let printed = explanation::put_front(refused, buffer);
+            let said = messages::page_fault(fault.line as u32, number, fault.reason_number());
+            Reply { printed, said }
+        }
     }
-    let refused = text::refusal_line(read.refusal);
-    let printed = explanation::put_front(refused, buffer);
-    let line = read.line as u32;
-    let said = messages::page_fault(line, read.refusal, read.reason);
-    Reply { printed, said }
 }
 
 // The reply to an input.
@@ -41,7 +44,7 @@ pub fn to_input(input: &[u8], buffer: &mut [u8; explanation::ROOM]) -> Reply
     ensures { Replied (printed_for input.now) (said_for input.now) buffer.old result buffer.new }
 {
     if TOO_LONG <= input.len() {
-        let refused = text::refusal_line(refusal::BAD_INPUT);
+        let refused = text::refusal_line(Refusal::BadInput.number());
         let printed = explanation::put_front(refused, buffer);
         let said = messages::unreadable_page();
         return Reply { printed, said };
@@ -60,7 +63,7 @@ pub fn put_remarks(input: &[u8], buffer: &mut [u8; remarks::ROOM]) -> usize
         return 0;
     }
     let read = question::read(input);
-    if read.refusal != refusal::NONE {
+    if read.is_err() {
         return 0;
     }
     remarks::of_page(words::after(input, b'\n'), 2, buffer)

@@ -6,21 +6,21 @@ use Prim.Native.Nat.{ℕ, ◌+◌, ◌-◌, ◌*◌, ◌/◌, ◌<◌, ◌≤◌
 use native.Mathlib.Numerals.{unary_clauses}
 use native.Mathlib.Omega.{arith}
 use borrow.Author.Tests.{eq-eqb, ne_eqb}
-use Rattle.days.specs.Refusals.{no_extra_month}
-use Rattle.days.specs.Days.{the_number, no_number}
+use Rattle.std.specs.Prelude.{Ok, Err}
+use Rattle.days.specs.declared.refusal.Refusal.TheVariants.{NoExtraMonth}
 use Rattle.saka.specs.declared.LunarDate.{LunarDate}
 use Rattle.saka.specs.LunarDays.{extra_months, leap_month_pending, elapsed_extra_months, reckoned_day, lunar_day_with, lunar_day}
 
 module _ (d : LunarDate) where
-  all : leap_month_pending d ≡ false → elapsed_extra_months d ≡ the_number (extra_months d)
+  all : leap_month_pending d ≡ false → elapsed_extra_months d ≡ Ok (extra_months d)
   unfolding elapsed_extra_months
   all e = rw e
 
-  one_fewer : leap_month_pending d ≡ true → 0 < extra_months d → elapsed_extra_months d ≡ the_number (extra_months d - 1)
+  one_fewer : leap_month_pending d ≡ true → 0 < extra_months d → elapsed_extra_months d ≡ Ok (extra_months d - 1)
   unfolding elapsed_extra_months extra_months
   one_fewer e h = rw (e, ne_eqb (extra_months d) 0 (λ z. omega arith))
 
-  none : leap_month_pending d ≡ true → extra_months d ≡ 0 → elapsed_extra_months d ≡ no_number no_extra_month
+  none : leap_month_pending d ≡ true → extra_months d ≡ 0 → elapsed_extra_months d ≡ Err NoExtraMonth
   unfolding elapsed_extra_months extra_months
   none e z = rw (e, eq-eqb (extra_months d) 0 z)
 
@@ -28,29 +28,29 @@ module _ (d : LunarDate) where
   abbrev pending : ℕ
   pending = cond (leap_month_pending d) 1 0
 
-  pub elapsed : pending ≤ extra_months d → elapsed_extra_months d ≡ the_number (extra_months d - pending)
+  pub elapsed : pending ≤ extra_months d → elapsed_extra_months d ≡ Ok (extra_months d - pending)
   elapsed = go (leap_month_pending d) refl
     where
-      go : (b : Bool) → leap_month_pending d ≡ b → cond b 1 0 ≤ extra_months d → elapsed_extra_months d ≡ the_number (extra_months d - cond b 1 0)
+      go : (b : Bool) → leap_month_pending d ≡ b → cond b 1 0 ≤ extra_months d → elapsed_extra_months d ≡ Ok (extra_months d - cond b 1 0)
       go true e h = one_fewer e (omega arith)
       go false e h = simp unary_clauses (all e)
 
-  pub too_few : extra_months d < pending → elapsed_extra_months d ≡ no_number no_extra_month
+  pub too_few : extra_months d < pending → elapsed_extra_months d ≡ Err NoExtraMonth
   too_few = go (leap_month_pending d) refl
     where
-      go : (b : Bool) → leap_month_pending d ≡ b → extra_months d < cond b 1 0 → elapsed_extra_months d ≡ no_number no_extra_month
+      go : (b : Bool) → leap_month_pending d ≡ b → extra_months d < cond b 1 0 → elapsed_extra_months d ≡ Err NoExtraMonth
       go true e h = none e (omega arith)
       go false e h = absurd (omega arith)
 
   -- without the mark the answer is paper 01's, with all the extra months
-  pub without-mark : leap_month_pending d ≡ false → lunar_day d ≡ lunar_day_with (the_number (extra_months d)) d
+  pub without-mark : leap_month_pending d ≡ false → lunar_day d ≡ lunar_day_with (Ok (extra_months d)) d
   unfolding lunar_day
   without-mark e = rw (all e)
 
 -- what the mark does where the quotient is not 0: paper 01's rule with one extra month fewer, and a reckoned day 29 or
 -- 30 days earlier
 pub record MonthEarlier (d : LunarDate) : Type 0 where
-  pub answer : lunar_day d ≡ lunar_day_with (the_number (extra_months d - 1)) d
+  pub answer : lunar_day d ≡ lunar_day_with (Ok (extra_months d - 1)) d
   pub least : reckoned_day d (extra_months d - 1) + 29 ≤ reckoned_day d (extra_months d)
   pub most : reckoned_day d (extra_months d) ≤ reckoned_day d (extra_months d - 1) + 30
 

@@ -9,8 +9,8 @@ use lib.Dec.{eqb}
 use lib.IntN.{ℤ, pos, pred_ℤ}
 use lib.ListN.{length}
 use borrow.Author.Tests.{eqb-true, eqb-false, eq-eqb, ne_eqb}
-use Rattle.days.specs.Refusals.{no_such_weekday}
-use Rattle.days.specs.Days.{no_number}
+use Rattle.std.specs.Prelude.{Err}
+use Rattle.days.specs.declared.refusal.Refusal.TheVariants.{NoSuchWeekday}
 use Rattle.saka.specs.LunarDays.{integer_weekday, three_days, having_weekday, integer_day, answer_from, day_on}
 
 -- the weekday of the day before, which may be day −1
@@ -72,6 +72,9 @@ module _ (w n : ℕ) (h : w < 7) where
   unfolding day_on answer_from
   on-before k = rw (only-before w n (omega (arith, before n)))
 
-  pub on_none : (ahead ≡ 0 → ⊥) → (ahead ≡ 1 → ⊥) → (ahead ≡ 6 → ⊥) → day_on w n ≡ no_number no_such_weekday
+  pub on_none : (ahead ≡ 0 → ⊥) → (ahead ≡ 1 → ⊥) → (ahead ≡ 6 → ⊥) → day_on w n ≡ Err NoSuchWeekday
   unfolding day_on answer_from
   on_none i j k = rw (none w n (λ e. omega (arith, before n)) (λ e. omega arith) (λ e. omega arith))
+
+-- the four, by one name
+pub ruleset on_days = (on-reckoned, on-after, on-before, on_none)

@@ -1,11 +1,12 @@
 -- The day of a Saka lunar date: the day reckoned by mean months and tithis, the day before it or the day after,
 -- whichever has the weekday.
 -- Assumes nothing.
-use Rattle.std.specs.Prelude.{Bool, cond, ◌&&◌, List, [], ◌∷◌, ℕ, ◌+◌, ◌-◌, ◌*◌, ◌/◌, ◌%◌, ltb, leb, eqb, ℤ, pos, negsuc}
+use Rattle.std.specs.Prelude.{Bool, cond, ◌&&◌, List, [], ◌∷◌, ℕ, ◌+◌, ◌-◌, ◌*◌, ◌/◌, ◌%◌, ltb, leb, eqb, ℤ, pos, negsuc, Result, Ok, Err}
 use Rattle.std.proofs.Math.IntN.{pred_ℤ}
-use Rattle.days.specs.Refusals.{accepted, out_of_range, bad_input, no_such_weekday, no_extra_month}
-use Rattle.days.specs.Days.{cycle_days, last_day, weekday_on, the_number, no_number}
-use Rattle.days.specs.declared.NumberAnswer.{NumberAnswer}
+use Rattle.days.specs.Refusals.{and_then}
+use Rattle.days.specs.declared.refusal.Refusal.{Refusal}
+use Rattle.days.specs.declared.refusal.Refusal.TheVariants.{OutOfRange, BadInput, NoSuchWeekday, NoExtraMonth}
+use Rattle.days.specs.Days.{cycle_days, last_day, weekday_on}
 use Rattle.saka.specs.declared.LunarDate.{LunarDate}
 
 abbrev pub first_year : ℕ
@@ -38,11 +39,11 @@ abbrev pub leap_month_pending : LunarDate → Bool
 leap_month_pending d = d.leap_month_pending
 
 -- the extra months that have elapsed: with the mark the quotient is lessened by one, which 0 cannot be
-unfoldable pub elapsed_extra_months : LunarDate → NumberAnswer
+unfoldable pub elapsed_extra_months : LunarDate → Result ℕ Refusal
 elapsed_extra_months d =
     cond (leap_month_pending d)
-    (cond (eqb (extra_months d) 0) (no_number no_extra_month) (the_number (extra_months d - 1)))
-    (the_number (extra_months d))
+    (cond (eqb (extra_months d) 0) (Err NoExtraMonth) (Ok (extra_months d - 1)))
+    (Ok (extra_months d))
 
 -- TM: the lunar months since the cycle's start, E extra ones among them
 abbrev pub true_months : LunarDate → ℕ → ℕ
@@ -75,31 +76,31 @@ having_weekday w [] = []
 having_weekday w (z ∷ zs) = cond (eqb (integer_weekday z) w) (z ∷ having_weekday w zs) (having_weekday w zs)
 
 -- days run from 0 to 401,599
-unfoldable pub integer_day : ℤ → NumberAnswer
-integer_day (pos n) = cond (leb n last_day) (the_number n) (no_number out_of_range)
-integer_day (negsuc _) = no_number out_of_range
+unfoldable pub integer_day : ℤ → Result ℕ Refusal
+integer_day (pos n) = cond (leb n last_day) (Ok n) (Err OutOfRange)
+integer_day (negsuc _) = Err OutOfRange
 
 -- the answer from the days that have the weekday: none of the three, or just one (the law `at_most_one`)
-unfoldable pub answer_from : List ℤ → NumberAnswer
-answer_from [] = no_number no_such_weekday
+unfoldable pub answer_from : List ℤ → Result ℕ Refusal
+answer_from [] = Err NoSuchWeekday
 answer_from (z ∷ _) = integer_day z
 
-unfoldable pub day_on : ℕ → ℕ → NumberAnswer
+unfoldable pub day_on : ℕ → ℕ → Result ℕ Refusal
 day_on w n = answer_from (having_weekday w (three_days n))
 
 -- an answer that is given where the test holds, and else refused
-abbrev pub provided : Bool → ℕ → NumberAnswer → NumberAnswer
-provided test refusal answer = cond test answer (no_number refusal)
+abbrev pub provided : Bool → Refusal → Result ℕ Refusal → Result ℕ Refusal
+provided test refusal answer = cond test answer (Err refusal)
 
 -- paper 01's rule over the extra months. The refusals in their order: 3, the year's 2, that of the extra months (8), 4,
 -- the day's 2
-unfoldable pub lunar_day_with : NumberAnswer → LunarDate → NumberAnswer
+unfoldable pub lunar_day_with : Result ℕ Refusal → LunarDate → Result ℕ Refusal
 lunar_day_with extra d =
-    provided (fields_in_range d) bad_input
-    (provided (year_in_range d.year) out_of_range
-    (provided (eqb extra.refusal accepted) extra.refusal
-    (day_on d.weekday (reckoned_day d extra.number))))
+    provided (fields_in_range d) BadInput
+    (provided (year_in_range d.year) OutOfRange
+    (and_then extra (λ E.
+    day_on d.weekday (reckoned_day d E))))
 
 -- a date's answer, with paper 02's mark and without
-unfoldable pub lunar_day : LunarDate → NumberAnswer
+unfoldable pub lunar_day : LunarDate → Result ℕ Refusal
 lunar_day d = lunar_day_with (elapsed_extra_months d) d

@@ -5,11 +5,12 @@ ghost use Rattle.std.specs.Prelude.{true, cond, ◌≡◌, ◌<◌, pos};
 ghost use Rattle.std.proofs.Math.IntN.{pred_ℤ};
 ghost use Rattle.saka.specs.LunarDays.{lunar_day, fields_in_range, year_in_range, cycle_of, mean_months, extra_months, leap_month_pending, reckoned_day, day_on, integer_day};
 
-use days::{Day, NumberAnswer, refusal};
+use days::Day;
+use days::refusal::Refusal;
 
 // The Saka year, the lunar months (0 to 11) and the tithis (0 to 29), all elapsed, and the weekday, 0 Monday to 6
 // Sunday.
-#[derive(Clone, Copy)]
+#[derive(Clone, Copy, Debug, PartialEq, Eq)]
 pub struct LunarDate {
     pub year: u32,
     pub months: u32,
@@ -23,133 +24,131 @@ const FIRST_YEAR: u32 = 1442;
 
 const LAST_YEAR: u32 = 2541;
 
-pub fn day_of(date: LunarDate) -> NumberAnswer
+pub fn day_of(date: LunarDate) -> Result<u32, Refusal>
     ensures { result ≡ lunar_day date }
 {
     if !fields_in_range(date) {
-        return NumberAnswer::refused(refusal::BAD_INPUT);
+        return Err(Refusal::BadInput);
     }
     if !year_in_range(date.year) {
-        return NumberAnswer::OUT_OF_RANGE;
+        return Err(Refusal::OutOfRange);
     }
-    let extra = extra_months(date);
+    let reckoning = Reckoning { date };
+    let extra = reckoning.extra_months();
     let pending = pending_months(date);
     if extra < pending {
-        return NumberAnswer::refused(refusal::NO_EXTRA_MONTH);
+        return Err(Refusal::NoExtraMonth);
     }
     let elapsed = extra - pending;
-    on_weekday(reckoned_day(date, elapsed), date.weekday)
+    on_weekday(reckoning.day(elapsed), date.weekday)
 }
 
+#[tactic(auto, unfolding(crate::specs::LunarDays::fields_in_range))]
 fn fields_in_range(date: LunarDate) -> bool
     ensures { result ≡ fields_in_range date }
 {
-    if date.months < 12 {
-        if date.tithis < 30 {
-            date.weekday < 7
-        } else {
-            false
-        }
-    } else {
-        false
-    }
+    date.months < 12 && date.tithis < 30 && date.weekday < 7
 }
 
+#[tactic(auto, unfolding(crate::specs::LunarDays::year_in_range))]
 fn year_in_range(year: u32) -> bool
     ensures { result ≡ year_in_range year }
 {
-    if FIRST_YEAR <= year {
-        year <= LAST_YEAR
-    } else {
-        false
+    (FIRST_YEAR..=LAST_YEAR).contains(&year)
+}
+
+// A date in range, as it is reckoned with.
+#[derive(Clone, Copy)]
+struct Reckoning {
+    date: LunarDate,
+    ghost fields: { fields_in_range date ≡ true },
+    ghost year: { year_in_range date.year ≡ true },
+}
+
+impl Reckoning {
+    // The cycles of eleven years.
+    #[tactic(auto, unfolding(crate::specs::LunarDays::year_in_range))]
+    fn cycle(self) -> u32
+        ensures { result ≡ cycle_of self.date }
+    {
+        (self.date.year - FIRST_YEAR) / 11
+    }
+
+    // The lunar months since the cycle's start, the extra ones left out.
+    #[tactic(auto, unfolding(crate::specs::LunarDays::fields_in_range, crate::specs::LunarDays::year_in_range))]
+    fn mean_months(self) -> u32
+        ensures { result ≡ mean_months self.date }
+    {
+        12 * ((self.date.year - FIRST_YEAR) % 11) + self.date.months
+    }
+
+    // The extra months (adhikamasa) since the cycle's start.
+    #[tactic(auto, unfolding(crate::specs::LunarDays::extra_months, crate::specs::LunarDays::fields_in_range, crate::specs::LunarDays::year_in_range))]
+    fn extra_months(self) -> u32
+        ensures { result ≡ extra_months self.date }
+    {
+        let cycle = self.cycle();
+        let months = self.mean_months();
+        (months + 2 * cycle + 10) / 33
+    }
+
+    // The day by mean months and tithis, which may be a day off.
+    #[tactic(auto, unfolding(crate::specs::LunarDays::reckoned_day, crate::specs::LunarDays::fields_in_range, crate::specs::LunarDays::year_in_range))]
+    fn day(self, extra: u32) -> u32
+        requires { extra < 11 }
+        ensures { result ≡ reckoned_day self.date extra }
+    {
+        let cycle = self.cycle();
+        let mean = self.mean_months();
+        let months = mean + extra;
+        let tithis = 30 * months + self.date.tithis + cycle / 6;
+        let civil_days = tithis - tithis / 64;
+        Day::CYCLE_DAYS * cycle + civil_days
     }
 }
 
-// The cycles of eleven years.
-fn cycle_of(date: LunarDate) -> u32
-    requires { year_in_range date.year ≡ true }
-    ensures { result ≡ cycle_of date }
-{
-    (date.year - FIRST_YEAR) / 11
-}
-
-// The lunar months since the cycle's start, the extra ones left out.
-fn mean_months(date: LunarDate) -> u32
-    requires date_value { fields_in_range date ≡ true }
-    requires year_value { year_in_range date.year ≡ true }
-    ensures { result ≡ mean_months date }
-{
-    12 * ((date.year - FIRST_YEAR) % 11) + date.months
-}
-
-// The extra months (adhikamasa) since the cycle's start.
-fn extra_months(date: LunarDate) -> u32
-    requires date_value { fields_in_range date ≡ true }
-    requires year_value { year_in_range date.year ≡ true }
-    ensures { result ≡ extra_months date }
-{
-    let cycle = cycle_of(date);
-    let months = mean_months(date);
-    (months + 2 * cycle + 10) / 33
-}
-
-// Those of them that are still to come: this year's, where the date is marked.
+// The extra months that are still to come: this year's, where the date is marked.
 fn pending_months(date: LunarDate) -> u32
     ensures { result ≡ cond (leap_month_pending date) 1 0 }
 {
     if date.leap_month_pending { 1 } else { 0 }
 }
 
-// The day by mean months and tithis, which may be a day off.
-fn reckoned_day(date: LunarDate, extra: u32) -> u32
-    requires date_value { fields_in_range date ≡ true }
-    requires year_value { year_in_range date.year ≡ true }
-    requires extra_bound { extra < 11 }
-    ensures { result ≡ reckoned_day date extra }
-{
-    let cycle = cycle_of(date);
-    let mean = mean_months(date);
-    let months = mean + extra;
-    let tithis = 30 * months + date.tithis + cycle / 6;
-    let civil_days = tithis - tithis / 64;
-    Day::CYCLE_DAYS * cycle + civil_days
-}
-
 // Of the reckoned day and its two neighbours the one that has the weekday.
-fn on_weekday(reckoned: u32, weekday: u32) -> NumberAnswer
+#[tactic(auto, using(crate::proofs::ThreeDays::on_days))]
+fn on_weekday(reckoned: u32, weekday: u32) -> Result<u32, Refusal>
     requires reckoned_bound { reckoned < 1000000 }
     requires weekday_bound { weekday < 7 }
     ensures { result ≡ day_on weekday reckoned }
 {
     let ahead = (weekday + 7 - reckoned % 7) % 7;
-    if ahead == 0 {
-        number(reckoned)
-    } else if ahead == 1 {
-        number(reckoned + 1)
-    } else if ahead == 6 {
-        day_before(reckoned)
-    } else {
-        NumberAnswer::refused(refusal::NO_SUCH_WEEKDAY)
+    match ahead {
+        0 => number(reckoned),
+        1 => number(reckoned + 1),
+        6 => day_before(reckoned),
+        _ => Err(Refusal::NoSuchWeekday),
     }
 }
 
 // Day -1, before day 0, is out of range.
-fn day_before(day: u32) -> NumberAnswer
+#[tactic(auto, unfolding(crate::specs::LunarDays::integer_day))]
+fn day_before(day: u32) -> Result<u32, Refusal>
     ensures { result ≡ integer_day (pred_ℤ (pos day)) }
 {
     if day == 0 {
-        NumberAnswer::OUT_OF_RANGE
+        Err(Refusal::OutOfRange)
     } else {
         number(day - 1)
     }
 }
 
-fn number(day: u32) -> NumberAnswer
+#[tactic(auto, unfolding(crate::specs::LunarDays::integer_day))]
+fn number(day: u32) -> Result<u32, Refusal>
     ensures { result ≡ integer_day (pos day) }
 {
     if day <= Day::LAST {
-        NumberAnswer::accepted(day)
+        Ok(day)
     } else {
-        NumberAnswer::OUT_OF_RANGE
+        Err(Refusal::OutOfRange)
     }
 }

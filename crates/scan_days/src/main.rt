@@ -3,7 +3,7 @@
 // docs/scan.svg is drawn from this output.
 #![tactic(auto)]
 
-use days::{Day, refusal};
+use days::Day;
 use longitudes::Body;
 use panchanga::FIRST_EDITION;
 use query::{Arc, Asked, BodyArcs, Query, Weekdays};
@@ -49,22 +49,21 @@ fn show_query(query: Query) {
 }
 
 fn show_visit(day: u32, seen: Examined) {
-    let pair = Day::from_number(day);
-    let sun = longitudes::mean_longitude(Body::Sun, pair.day);
-    print(day, b" ");
-    print(sun.seconds, b" ");
-    print(seen.matches as u32, b" ");
-    print(seen.next, b"\n");
+    if let Ok(sun) = longitudes::mean_longitude(Body::Sun, Day::at(day)) {
+        print(day, b" ");
+        print(sun.seconds, b" ");
+        print(seen.matches as u32, b" ");
+        print(seen.next, b"\n");
+    }
 }
 
 fn show_scan(query: Query) {
     let last = query.last;
     let mut day = query.first;
     while day <= last {
-        let seen = search::examine(query, day);
-        if seen.refusal != refusal::NONE {
+        let Ok(seen) = search::examine(query, day) else {
             return;
-        }
+        };
         show_visit(day, seen);
         day = seen.next;
     }

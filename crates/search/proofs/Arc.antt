@@ -7,6 +7,7 @@ use mathlib.Core.Bool.{Bool, true, false, cond, ◌&&◌, ◌||◌, and-eq-true_
 use mathlib.Core.List.{List, [], ◌∷◌}
 use native.Mathlib.Omega.{arith}
 use lib.Dec.{ltb}
+use Rattle.std.specs.Prelude.{Some, None}
 use borrow.Author.Tests.{ltb-true, ltb-false, leb-true, le-ltb}
 use Rattle.longitudes.specs.Longitudes.{circle, difference_of}
 use Rattle.longitudes.proofs.Subtraction.{difference-small, difference-turned}
@@ -18,7 +19,6 @@ use Rattle.query.specs.Query.{sun_arcs}
 use Rattle.query.proofs.Accepted.{each-in-range}
 use Rattle.search.proofs.Others.{neither}
 use Rattle.search.specs.Look.{sun_advance, sun_on, sun_in_arcs, seconds_ahead, next_day}
-use Rattle.search.specs.declared.Approach.{Approach}
 use Rattle.search.specs.Parts.{leading_arc, both_given, approach_to, Approached}
 use Rattle.search.proofs.Circle.{past, past-low, past-grows, ahead_past}
 
@@ -118,81 +118,73 @@ given-leads a = go a.first.given a.second.given
     go false false e = absurd (false≢true e)
 
 -- where a longitude stands to an arc in range: in it, or that far before its start
-pub record To (a : Arc) (x : ℕ) (found : Approach) : Type 0 where
-  pub within : found.inside ≡ in_arc a x
-  pub ahead : found.inside ≡ false → found.ahead ≡ difference_of a.start x
+module _ (a : Arc) (x : ℕ) where
+  pub inside-arc : approach_to a x ≡ None → in_arc a x ≡ true
+  unfolding approach_to
+  inside-arc e = go (in_arc a x) e
+    where
+      go : (b : Bool) → cond b None (Some (circle - difference_of x a.start)) ≡ None → b ≡ true
+      go true e = refl
+      go false e = absurd cc
 
-approach-to : (a : Arc) (x : ℕ) (found : Approach) → InCircle a → found ≡ approach_to a x → To a x found
-unfolding approach_to in_arc
-approach-to a x found c e = rw e (go (ltb (difference_of x a.start) a.width) refl)
-  where
-    go : (b : Bool) → ltb (difference_of x a.start) a.width ≡ b → To a x (approach_to a x)
-    go true i = record { within = rw i; ahead = λ f. absurd (true≢false (rw i at f)) }
-    go false i =
-        let w : a.width ≤ difference_of x a.start = ltb-false _ _ i in
-        record {
-          within = rw i;
-          ahead = λ f. rw i (sym (difference-turned (difference_of x a.start) x a.start refl (omega (arith, w, c.width))));
-        }
+  pub before-arc : {g : ℕ} → InCircle a → approach_to a x ≡ Some g → (in_arc a x ≡ false) × (g ≡ difference_of a.start x)
+  unfolding approach_to in_arc
+  before-arc {g} c e = go (ltb (difference_of x a.start) a.width) refl e
+    where
+      go : (b : Bool) → ltb (difference_of x a.start) a.width ≡ b → cond b None (Some (circle - difference_of x a.start)) ≡ Some g → (b ≡ false) × (g ≡ difference_of a.start x)
+      go true i e = absurd cc
+      go false i e =
+          let w : a.width ≤ difference_of x a.start = ltb-false _ _ i in
+          let same : g ≡ circle - difference_of x a.start = cc in
+          (refl, same ∙ sym (difference-turned (difference_of x a.start) x a.start refl (omega (arith, w, c.width))))
 
 -- and to the arcs that are given, by the leading one and the second
-module _ (a : BodyArcs) (x : ℕ) (r : body_arcs_in_range a ≡ true) (g : arcs_given a ≡ true) (first : Approach) (f : first ≡ approach_to (leading_arc a) x) where
-  circled : Each InCircle (leading_arc a ∷ cond (both_given a) (a.second ∷ []) [])
-  circled = rw (given-leads a g) at (given-in-circle a r)
+module _ (a : BodyArcs) (x : ℕ) where
+  module _ (r : body_arcs_in_range a ≡ true) (g : arcs_given a ≡ true) where
+    circled : Each InCircle (leading_arc a ∷ cond (both_given a) (a.second ∷ []) [])
+    circled = rw (given-leads a g) at (given-in-circle a r)
 
-  to-first : To (leading_arc a) x first
-  unfolding Each
-  to-first = approach-to (leading_arc a) x first circled.0 f
+    in-given : in_some (given_arcs a) x ≡ true → Approached a x None
+    unfolding Approached in_arcs
+    in-given e = rw (g, e)
 
-  pub in-first : first.inside ≡ true → Approached a x first
-  unfolding in_some
-  in-first i =
-      record {
-        within = i ∙ rw (given-leads a g, sym to-first.within ∙ i);
-        nearest = λ n. absurd (true≢false (sym i ∙ n));
-      }
+    pub in-first : approach_to (leading_arc a) x ≡ None → Approached a x None
+    unfolding in_some
+    in-first e = in-given (rw (given-leads a g, inside-arc (leading_arc a) x e))
 
-  module _ (out : first.inside ≡ false) where
-    away : in_arc (leading_arc a) x ≡ false
-    away = sym to-first.within ∙ out
-
-    pub one-given : both_given a ≡ false → Approached a x first
-    unfolding in_some nearest_start
-    one-given b =
-        record {
-          within = out ∙ rw (given-leads a g, b, away);
-          nearest = λ n. to-first.ahead n ∙ rw (given-leads a g, b) (omega (arith, difference-small (leading_arc a).start x));
-        }
-
-    module _ (b : both_given a ≡ true) (second : Approach) (s : second ≡ approach_to a.second x) where
-      to-second : To a.second x second
+    module _ {first : ℕ} (f : approach_to (leading_arc a) x ≡ Some first) where
+      from-first : (in_arc (leading_arc a) x ≡ false) × (first ≡ difference_of (leading_arc a).start x)
       unfolding Each
-      to-second = approach-to a.second x second (rw b at circled).1.0 s
+      from-first = before-arc (leading_arc a) x circled.0 f
 
-      pub in-second : second.inside ≡ true → Approached a x second
-      unfolding in_some
-      in-second i =
-          record {
-            within = i ∙ rw (given-leads a g, b, away, sym to-second.within ∙ i);
-            nearest = λ n. absurd (true≢false (sym i ∙ n));
-          }
+      pub one-given : both_given a ≡ false → Approached a x (Some first)
+      unfolding Approached in_some nearest_start
+      one-given b =
+          (g, rw (given-leads a g, b, from-first.0), from-first.1 ∙ rw (given-leads a g, b) (omega (arith, difference-small (leading_arc a).start x)))
 
-      module _ (gone : second.inside ≡ false) where
-        in-none : in_some (given_arcs a) x ≡ false
+      module _ (b : both_given a ≡ true) where
+        pub in-second : approach_to a.second x ≡ None → Approached a x None
         unfolding in_some
-        in-none = rw (given-leads a g, b, away, sym to-second.within ∙ gone)
+        in-second e = in-given (rw (given-leads a g, b, from-first.0, inside-arc a.second x e))
 
-        nearest-of-both : nearest_start (given_arcs a) x ≡ min first.ahead second.ahead
-        unfolding nearest_start
-        nearest-of-both = rw (given-leads a g, b, to-first.ahead out, to-second.ahead gone) (omega (arith, difference-small a.second.start x))
+        pub before-both : {second : ℕ} → approach_to a.second x ≡ Some second → Approached a x (Some (min first second))
+        unfolding Approached in_some nearest_start Each
+        before-both {second} s =
+            let from-second = before-arc a.second x (rw b at circled).1.0 s in (
+              g,
+              rw (given-leads a g, b, from-first.0, from-second.0),
+              rw (given-leads a g, b, from-first.1, from-second.1) (omega (arith, difference-small a.second.start x)),
+            )
 
-        pub second-nearer : second.ahead < first.ahead → Approached a x second
-        second-nearer l = record { within = gone ∙ sym in-none; nearest = λ n. omega (arith, nearest-of-both) }
-
-        pub first-nearer : first.ahead ≤ second.ahead → Approached a x first
-        first-nearer l = record { within = out ∙ sym in-none; nearest = λ n. omega (arith, nearest-of-both) }
+pub ahead-low : (a : BodyArcs) (x ahead : ℕ) → Approached a x (Some ahead) → ahead < circle
+unfolding Approached
+ahead-low a x ahead h = rw h.2 (nearest-low a x h.0)
 
 module _ (q : Query) (d : ℕ) where
+  pub within-sun : Approached (sun_arcs q) (sun_on d) None → sun_in_arcs q d ≡ true
+  unfolding Approached sun_in_arcs
+  within-sun h = h
+
   cond-false : (b t : Bool) → cond b t true ≡ false → (b ≡ true) × (t ≡ false)
   cond-false true t e = (refl, e)
   cond-false false t e = absurd (true≢false e)

@@ -3,22 +3,27 @@
 -- matching day is visited. By induction on the days.
 -- Assumes nothing.
 use Prim.Native.Nat.{ℕ, zero, suc, ◌≤◌, ◌<◌}
-use mathlib.Core.Path.{◌≡◌, refl, ap, ◌∙◌}
+use mathlib.Core.Path.{◌≡◌, refl, sym, ap, ◌∙◌}
 use mathlib.Core.Bool.{Bool, true, false, cond, ◌&&◌, false≢true}
 use mathlib.Core.List.{List, [], ◌∷◌}
 use native.Mathlib.Omega.{arith}
 use native.Mathlib.Decide.{dec_le}
-use lib.Dec.{leb, eqb}
+use lib.Dec.{leb}
 use lib.ListN.{length, get_or}
-use borrow.Author.Tests.{leb-true, le-leb, eqb-true, eqb-false, eq-eqb}
-use Rattle.days.specs.Days.{last_day, the_number}
+use borrow.Author.Tests.{leb-true, le-leb}
+use Rattle.days.specs.Days.{last_day}
+use Rattle.std.specs.Prelude.{Result, Ok, Err}
+use Rattle.days.specs.Refusals.{and_then}
+use Rattle.days.specs.declared.refusal.Refusal.{Refusal}
+use Rattle.days.specs.declared.refusal.Refusal.TheVariants.{OutOfRange, BadEdition}
 use Rattle.entries.specs.Entries.{with_entries, capacity, entry_at}
 use Rattle.query.specs.declared.Query.{Query}
 use Rattle.query.specs.Conditions.{body_arcs_in_range}
-use Rattle.query.specs.Query.{sun_arcs, conditions_met, matches, refusal_of}
+use Rattle.query.specs.Query.{sun_arcs, conditions_met, matches, refusal_of, check_of}
 use Rattle.panchanga.specs.TrueLongitudes.{is_edition}
-use Rattle.query.proofs.Accepted.{accepted-by}
-use Rattle.search.specs.Look.{sun_in_arcs, next_day, not_examined, examined_of}
+use Rattle.query.proofs.Accepted.{accepted-by, checked}
+use Rattle.search.specs.declared.Examined.{Examined}
+use Rattle.search.specs.Look.{sun_in_arcs, next_day, looked, examined_of}
 use Rattle.search.specs.Days.{span_length, span, matching_days, visited_from, visited_days}
 use Rattle.search.proofs.Arc.{next-after}
 use Rattle.entries.proofs.Laws.{entries-read}
@@ -60,23 +65,24 @@ matches-listed q x e = go (leb q.first x) (leb x q.last) refl refl e
     go false b f t m = absurd (false≢true m)
 
 -- the look goes forward: the day that it hands back is later than the day, where it is not refused
-pub next-later : (q : Query) (n : ℕ) → refusal_of q ≡ 0 → n ≤ last_day → n < (examined_of q n).next
-unfolding examined_of
-next-later q n e h = rw ((accepted-by q e).edition, le-leb n last_day h, eq-eqb (refusal_of q) 0 e) (next-after q (accepted-by q e).sun n)
+pub next-later : (q : Query) (n : ℕ) → refusal_of q ≡ 0 → n < (looked q n).next
+next-later q n e = next-after q (accepted-by q e).sun n
 
-pub looked-later : (q : Query) (n : ℕ) → (examined_of q n).refusal ≡ 0 → n < (examined_of q n).next
-looked-later q n r = go (is_edition q.edition) (leb n last_day) (eqb (refusal_of q) 0) refl refl (unfold examined_of in r)
+pub looked-later : (q : Query) (n : ℕ) {seen : Examined} → Ok seen ≡ examined_of q n → n < seen.next
+unfolding examined_of
+looked-later q n {seen} r = go (is_edition q.edition) (leb n last_day) (check_of q) refl r
   where
     go :
-        (t h e : Bool) →
-        leb n last_day ≡ h →
-        eqb (refusal_of q) 0 ≡ e →
-        (cond t (cond h (cond e (record { refusal = 0; matches = matches q n; next = next_day q n }) (not_examined (refusal_of q))) (not_examined 2)) (not_examined 14)).refusal ≡ 0 →
-        n < (examined_of q n).next
-    go true true true h e r = next-later q n (eqb-true _ _ e) (leb-true _ _ h)
-    go true true false h e r = absurd (eqb-false _ _ e r)
-    go true false e h f r = absurd (omega arith)
-    go false d e h f r = absurd (omega arith)
+        (t h : Bool) (c : Result (Unit {0}) Refusal) →
+        check_of q ≡ c →
+        Ok seen ≡ cond t (cond h (and_then c (λ (_ : Unit {0}). Ok (looked q n))) (Err OutOfRange)) (Err BadEdition) →
+        n < seen.next
+    go true true (Ok tt) e r =
+        let is : seen ≡ looked q n = cc in
+        rw is (next-later q n (checked q (sym e)))
+    go true true (Err x) e r = absurd cc
+    go true false c e r = absurd cc
+    go false h c e r = absurd cc
 
 -- an entry of the list that was written is the matching day of that number
 pub listed-read :
@@ -84,7 +90,7 @@ pub listed-read :
     refusal_of q ≡ 0 →
     length (matching_days q) ≤ capacity l →
     k < length (matching_days q) →
-    entry_at (with_entries (matching_days q) l) k ≡ the_number (get_or (matching_days q) k 0)
+    entry_at (with_entries (matching_days q) l) k ≡ Ok (get_or (matching_days q) k 0)
 listed-read q l k e room h =
     let n = listed-only q (get_or (matching_days q) k 0) (has-at k (matching_days q) h) in
     entries-read (matching_days q) l k room h (omega (arith, n.to_last, (accepted-by q e).last))

@@ -11,3 +11,4 @@ pub mod Spans
 pub mod PaperQuery
 pub mod Single
 pub mod SunArcs
+pub mod Told

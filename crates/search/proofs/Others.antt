@@ -3,12 +3,15 @@
 -- Assumes nothing.
 use mathlib.Core.Path.{◌≡◌, refl, sym, ap, ◌∙◌}
 use mathlib.Core.Bool.{Bool, true, false, not, ◌&&◌, ◌||◌, and-true, true≢false}
-use mathlib.Core.List.{List}
-use Prim.Native.Nat.{ℕ, zero, suc, ◌+◌, ◌≤◌, ◌<◌}
-use native.Mathlib.Decide.{dec_le}
+use mathlib.Core.List.{List, [], ◌∷◌}
+use Prim.Native.Nat.{ℕ, zero, suc, ◌+◌, ◌<◌}
 use native.Mathlib.Omega.{arith}
 use lib.Dec.{lit<}
+use lib.ListN.{length, take, drop}
 use borrow.Author.Count.{below_more}
+use Rattle.std.proofs.Common.{length-drop}
+use Rattle.std.proofs.lemmas.List.{take_all}
+use Rattle.std.specs.List.{list_all, list_any}
 use Rattle.days.specs.declared.Day.{Day}
 use Rattle.days.specs.Days.{in_range}
 use Rattle.panchanga.specs.TrueLongitudes.{is_edition}
@@ -18,8 +21,10 @@ use Rattle.query.specs.declared.TrueBody.{TrueBody}
 use Rattle.query.specs.Conditions.{meets, arcs_at, arcs_given, in_arcs, elements_met, query_elements_met, true_longitude_at, each_place, place_met, true_arcs_met}
 use Rattle.query.specs.Parts.{other_arcs_met, others_met}
 use Rattle.query.specs.TrueBodies.{true_number}
-use Rattle.query.proofs.Conditions.{other-false, places-met}
+use Rattle.query.proofs.Conditions.{other-false, all-others, places-met}
 use Rattle.query.proofs.TrueBodies.{number-low}
+use Rattle.search.specs.declared.Places.{Places}
+use Rattle.search.specs.declared.Places.TheVariants as places
 use Rattle.search.specs.declared.More.TheVariants.{Nothing, Elements, TrueArcs}
 use Rattle.search.specs.Parts.{some_other, other_arcs_given, elements_given, NoneBut, GivenPlaces, Asks}
 
@@ -39,15 +44,20 @@ module _ (p : ℕ → Bool) where
       go true f = absurd (true≢false (sym (other-true k l u f) ∙ e))
       go false f = f
 
-module _ (arcs : List BodyArcs) where
-  pub arc-given : (body : ℕ) → 0 < body → body < 9 → arcs_given (arcs_at arcs body) ≡ true → true ≡ other_arcs_given arcs
-  unfolding other_arcs_given
-  arc-given body l u e = sym (other-true (λ (k : ℕ). arcs_given (arcs_at arcs k)) body l u e)
+-- some element of a list passes where it is not so that each fails
+any-not : {A : Type 0} (p : A → Bool) (l : List A) → list_any p l ≡ not (list_all (λ (a : A). not (p a)) l)
+any-not p [] = refl
+any-not p (a ∷ l) = go (p a) (any-not p l)
+  where
+    go : (b : Bool) → list_any p l ≡ not (list_all (λ a. not (p a)) l) → (b || list_any p l) ≡ not (not b && list_all (λ a. not (p a)) l)
+    go true ih = refl
+    go false ih = ih
 
-  pub no-arc-given : ((body : ℕ) → 0 < body → body < 9 → arcs_given (arcs_at arcs body) ≡ false) → false ≡ other_arcs_given arcs
-  unfolding other_arcs_given
-  no-arc-given h =
-      rw (h 1 (lit< tt) (lit< tt), h 2 (lit< tt) (lit< tt), h 3 (lit< tt) (lit< tt), h 4 (lit< tt) (lit< tt), h 5 (lit< tt) (lit< tt), h 6 (lit< tt) (lit< tt), h 7 (lit< tt) (lit< tt), h 8 (lit< tt) (lit< tt))
+pub some-given : (arcs : List BodyArcs) → length arcs ≡ 9 → list_any (λ a. arcs_given a) (take 8 (drop 1 arcs)) ≡ other_arcs_given arcs
+unfolding other_arcs_given
+some-given arcs e =
+    ap (list_any (λ a. arcs_given a)) (take_all 8 (drop 1 arcs) (omega (arith, length-drop 1 arcs)))
+    ∙ any-not (λ a. arcs_given a) (drop 1 arcs) ∙ ap not (all-others (λ a. not (arcs_given a)) arcs e)
 
 -- a test of the seven places that holds for all but one is that one's
 each-but : (p : ℕ → Bool) (k : ℕ) → k < 7 → ((j : ℕ) → j < 7 → (j ≡ k → ⊥) → p j ≡ true) → each_place p ≡ p k
@@ -67,49 +77,36 @@ each-but p (suc (suc (suc (suc (suc (suc zero)))))) l h =
     rw (h 0 (lit< tt) (λ e. omega arith), h 1 (lit< tt) (λ e. omega arith), h 2 (lit< tt) (λ e. omega arith), h 3 (lit< tt) (λ e. omega arith), h 4 (lit< tt) (λ e. omega arith), h 5 (lit< tt) (λ e. omega arith))
 each-but p (suc (suc (suc (suc (suc (suc (suc n))))))) l h = absurd (omega arith)
 
--- the places passed of which a true longitude is asked for: how many, and the last of them
-pub record Counting (arcs : List BodyArcs) (count last place : ℕ) : Type 0 where
-  pub bound : place ≤ 7
-  pub few : count ≤ place
-  pub none : count ≡ 0 → (k : ℕ) → k < place → arcs_given (arcs_at arcs k) ≡ false
-  pub one : count ≡ 1 → (last < place) × ((k : ℕ) → k < place → (k ≡ last → ⊥) → arcs_given (arcs_at arcs k) ≡ false)
+-- the places below n of which a true longitude is asked for: there are none, or there is one
+unfoldable pub Counting : List BodyArcs → Places → ℕ → Type 0
+Counting arcs places.None n = (k : ℕ) → k < n → arcs_given (arcs_at arcs k) ≡ false
+Counting arcs (places.One place) n = (place < n) × ((k : ℕ) → k < n → (k ≡ place → ⊥) → arcs_given (arcs_at arcs k) ≡ false)
+Counting arcs places.Several n = Unit {0}
 
 module _ (arcs : List BodyArcs) where
-  pub counting-start : Counting arcs 0 0 0
-  counting-start = record { bound = omega arith; few = omega arith; none = λ e k h. absurd (omega arith); one = λ e. absurd (omega arith) }
+  pub counting-start : Counting arcs places.None 0
+  unfolding Counting
+  counting-start k h = absurd (omega arith)
 
-  module _ (count last place : ℕ) (c : Counting arcs count last place) where
-    pub counting-given : place < 7 → Counting arcs (count + 1) place (place + 1)
-    counting-given h =
-        record {
-          bound = omega arith;
-          few = omega (arith, c.few);
-          none = λ e k l. absurd (omega arith);
-          one = λ e. (omega arith, λ k l n. c.none (omega arith) k (apart k l n));
-        }
-      where
-        apart : (k : ℕ) → k < place + 1 → (k ≡ place → ⊥) → k < place
-        apart k l n = omega arith
+  pub counting-first : (n : ℕ) → Counting arcs places.None n → Counting arcs (places.One n) (n + 1)
+  unfolding Counting
+  counting-first n none = (omega arith, λ k l m. none k (omega (arith, m)))
 
-    pub counting-not : place < 7 → arcs_given (arcs_at arcs place) ≡ false → Counting arcs count last (place + 1)
-    counting-not h e =
-        record {
-          bound = omega arith;
-          few = omega (arith, c.few);
-          none = λ z. below_more _ _ (c.none z) e;
-          one = λ z. (omega (arith, c.one z), λ k l n. go k n (dec_le place k) (λ m. (c.one z).1 k m n) l);
-        }
-      where
-        go : (k : ℕ) → (k ≡ last → ⊥) → Dec (place ≤ k) → (k < place → arcs_given (arcs_at arcs k) ≡ false) → k < place + 1 → arcs_given (arcs_at arcs k) ≡ false
-        go k n (yes m) before l = ap (λ (j : ℕ). arcs_given (arcs_at arcs j)) {x = k} {y = place} (omega arith) ∙ e
-        go k n (no m) before l = before (omega arith)
+  pub counting-several : (n : ℕ) → Counting arcs places.Several n
+  unfolding Counting
+  counting-several n = tt
 
-    pub counting-end : 7 ≤ place → GivenPlaces arcs (record { count = count; last = last })
-    counting-end h =
-        record {
-          none = λ z k l n. c.none z k (omega (arith, c.bound));
-          one = λ z. (omega (arith, c.one z, c.bound), λ k l n. (c.one z).1 k (omega (arith, c.bound)) n);
-        }
+  pub counting-not : (n : ℕ) (p : Places) → arcs_given (arcs_at arcs n) ≡ false → Counting arcs p n → Counting arcs p (n + 1)
+  unfolding Counting
+  counting-not n places.None e none = below_more _ _ none e
+  counting-not n (places.One place) e one = (omega (arith, one.0), below_more (λ (k : ℕ). (k ≡ place → ⊥) → arcs_given (arcs_at arcs k) ≡ false) n one.1 (λ m. e))
+  counting-not n places.Several e c = tt
+
+  pub counting-end : (p : Places) → Counting arcs p 7 → GivenPlaces arcs p
+  unfolding Counting GivenPlaces
+  counting-end places.None none = λ k l m. none k l
+  counting-end (places.One place) one = one
+  counting-end places.Several c = tt
 
 module _ (q : Query) (d : Day) where
   arcs-free : other_arcs_given q.arcs ≡ false → other_arcs_met q.arcs d ≡ true

@@ -20,29 +20,29 @@ use Rattle.query.proofs.Accepted.{accepted-by, accepts}
 use Rattle.search.specs.declared.Examined.{Examined}
 use Rattle.search.specs.declared.Visit.{Visit}
 use Rattle.search.specs.declared.Tally.{Tally}
-use Rattle.search.specs.Look.{sun_in_arcs, next_day, examined_of}
+use Rattle.search.specs.Look.{sun_in_arcs, next_day, looked}
 use Rattle.search.specs.Spans.{between as over}
 use Rattle.search.specs.Days.{visited_from, visited_days, matching_days}
 use Rattle.search.specs.Parts.{VisitAt, visits_from, matches_from, Reached, first_visit, visit_after, NoneAfter, Scannable, LastMatch, Tallied}
 use Rattle.search.proofs.Arc.{next-after}
 use Rattle.entries.proofs.Filter.{filtered-in, filtered-out, filtered-nil}
 use Rattle.search.proofs.Skip.{rest_end, rest_more, visit-end, visit-more, skipped, outside-unmatched, matching-visited}
-use Rattle.search.proofs.Look.{examined-at}
+use Rattle.search.proofs.Look.{looked-at}
 
 -- what the visit of a day of the span hands back: a day not past the last day there is, and the next day, which is
 -- later
 pub record Seen (q : Query) (d : ℕ) (seen : Examined) : Type 0 where
-  pub handed : seen ≡ record { refusal = 0; matches = conditions_met q d; next = next_day q d }
+  pub handed : seen ≡ record { matches = conditions_met q d; next = next_day q d }
   pub low : d ≤ last_day
   pub later : d < seen.next
 
 pub in-span : (q : Query) (d : ℕ) → q.first ≤ d → d ≤ q.last → in_span q d ≡ true
 in-span q d f h = rw (le-leb _ _ f, le-leb _ _ h)
 
-pub seen_at : (q : Query) (d : ℕ) (seen : Examined) → refusal_of q ≡ 0 → q.first ≤ d → d ≤ q.last → seen ≡ examined_of q d → Seen q d seen
+pub seen_at : (q : Query) (d : ℕ) (seen : Examined) → refusal_of q ≡ 0 → q.first ≤ d → d ≤ q.last → seen ≡ looked q d → Seen q d seen
 seen_at q d seen e f h s =
     let a = accepted-by q e in
-    let t : seen ≡ record { refusal = 0; matches = conditions_met q d; next = next_day q d } = s ∙ examined-at q d e (in-span q d f h) in
+    let t : seen ≡ record { matches = conditions_met q d; next = next_day q d } = s ∙ looked-at q d (in-span q d f h) in
     record { handed = t; low = omega (arith, a.last); later = rw t (next-after q a.sun d) }
 
 module _ (q : Query) (r : body_arcs_in_range (sun_arcs q) ≡ true) where
@@ -281,6 +281,6 @@ module _ (q : Query) (n : ℕ) (alone : Query) (visit : Visit) (e : refusal_of q
       rw (g, f)
       (alone-accepted, (alone-span, reached-visit (over q n n) a.sun 0 (first_visit (over q n n)) a.first (reached-start (over q n n) a.sun)))
 
-  pub alone-seen : (seen : Examined) → seen ≡ examined_of alone visit.day → seen ≡ record { refusal = 0; matches = conditions_met q n; next = next_day q n }
+  pub alone-seen : (seen : Examined) → seen ≡ looked alone visit.day → seen ≡ record { matches = conditions_met q n; next = next_day q n }
   unfolding conditions_met next_day sun_in_arcs
-  alone-seen seen s = s ∙ rw (g, f) (examined-at (over q n n) n alone-accepted alone-span)
+  alone-seen seen s = s ∙ rw (g, f) (looked-at (over q n n) n alone-span)

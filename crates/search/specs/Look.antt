@@ -1,14 +1,16 @@
 -- What the look says of a day: whether it matches, and which day the scan visits next.
 -- Assumes nothing.
-use Rattle.std.specs.Prelude.{Bool, false, cond, ℕ, ◌+◌, leb, eqb}
-use Rattle.days.specs.Refusals.{accepted, out_of_range, bad_edition}
+use Rattle.std.specs.Prelude.{Bool, cond, ℕ, ◌+◌, leb, Result, Ok, Err}
+use Rattle.days.specs.Refusals.{and_then}
+use Rattle.days.specs.declared.refusal.Refusal.{Refusal}
+use Rattle.days.specs.declared.refusal.Refusal.TheVariants.{OutOfRange, BadEdition}
 use Rattle.days.specs.Days.{last_day, pair_at}
 use Rattle.integers.specs.RoundedUp.{rounded_up}
 use Rattle.longitudes.specs.Longitudes.{longitude_at}
 use Rattle.panchanga.specs.TrueLongitudes.{is_edition}
 use Rattle.query.specs.declared.Query.{Query}
 use Rattle.query.specs.Conditions.{given_arcs, in_arcs, nearest_start}
-use Rattle.query.specs.Query.{sun_arcs, matches, refusal_of}
+use Rattle.query.specs.Query.{sun_arcs, matches, check_of}
 use Rattle.search.specs.declared.Examined.{Examined}
 
 -- the mean Sun of day n
@@ -33,16 +35,14 @@ sun_advance = 3549
 unfoldable pub next_day : Query → ℕ → ℕ
 next_day q n = cond (sun_in_arcs q n) (n + 1) (n + rounded_up (seconds_ahead q n) sun_advance)
 
--- a refused look: all zeros
-abbrev pub not_examined : ℕ → Examined
-not_examined refusal = record { refusal = refusal; matches = false; next = 0 }
+-- what the look sees of day n: whether it matches, and the day that the scan visits next
+abbrev pub looked : Query → ℕ → Examined
+looked q n = record { matches = matches q n; next = next_day q n }
 
 -- paper 01's look at day n: refused for the query's edition, where n is no day, or where the search refuses the query;
--- else whether the day matches, and the day that the scan visits next
-unfoldable pub examined_of : Query → ℕ → Examined
+-- else what it sees
+unfoldable pub examined_of : Query → ℕ → Result Examined Refusal
 examined_of q n =
     cond (is_edition q.edition)
-    (cond (leb n last_day)
-    (cond (eqb (refusal_of q) accepted) (record { refusal = accepted; matches = matches q n; next = next_day q n }) (not_examined (refusal_of q)))
-    (not_examined out_of_range))
-    (not_examined bad_edition)
+    (cond (leb n last_day) (and_then (check_of q) (λ (_ : Unit {0}). Ok (looked q n))) (Err OutOfRange))
+    (Err BadEdition)

@@ -1,19 +1,19 @@
 -- What only contracts of private functions speak of: what more is asked, where a longitude stands to a body's arcs,
 -- whose turn it is in the scan, and what the passes over the visited days rely on and leave.
 -- Assumes nothing.
-use Rattle.std.specs.Prelude.{Bool, true, false, cond, not, ◌&&◌, ◌||◌, List, ◌∷◌, ◌≡◌, ℕ, ◌+◌, ◌-◌, ◌<◌, ◌≤◌, length, drop}
+use Rattle.std.specs.Prelude.{Bool, true, false, cond, not, ◌&&◌, ◌||◌, List, ◌∷◌, Option, Some, None, ◌≡◌, ℕ, ◌+◌, ◌-◌, ◌<◌, ◌≤◌, length, drop}
 use Rattle.entries.specs.Runs.{filtered}
 use Rattle.longitudes.specs.Longitudes.{circle, difference_of}
 use Rattle.query.specs.declared.Arc.{Arc}
 use Rattle.query.specs.declared.BodyArcs.{BodyArcs}
 use Rattle.query.specs.declared.Query.{Query}
-use Rattle.query.specs.Conditions.{each_other, arcs_at, arcs_given, given_arcs, in_arc, in_some, nearest_start}
+use Rattle.query.specs.Conditions.{each_other, arcs_at, arcs_given, given_arcs, in_arc, in_some, in_arcs, nearest_start}
 use Rattle.query.specs.Query.{conditions_met, refusal_of}
 use Rattle.query.specs.TrueBodies.{true_number}
 use Rattle.search.specs.declared.More.{More}
 use Rattle.search.specs.declared.More.TheVariants.{Nothing, Elements, TrueArcs, Several}
 use Rattle.search.specs.declared.Places.{Places}
-use Rattle.search.specs.declared.Approach.{Approach}
+use Rattle.search.specs.declared.Places.TheVariants as places
 use Rattle.search.specs.declared.Visit.{Visit}
 use Rattle.search.specs.declared.Tally.{Tally}
 use Rattle.search.specs.Days.{matching_days, visited_from, visited_days}
@@ -35,9 +35,10 @@ abbrev pub NoneBut : List BodyArcs → ℕ → Type 0
 NoneBut arcs place = (k : ℕ) → k < 7 → (k ≡ place → ⊥) → arcs_given (arcs_at arcs k) ≡ false
 
 -- the places of which a true longitude is asked for: there are none, or there is one
-pub record GivenPlaces (arcs : List BodyArcs) (places : Places) : Type 0 where
-  pub none : places.count ≡ 0 → NoneBut arcs 7
-  pub one : places.count ≡ 1 → (places.last < 7) × NoneBut arcs places.last
+unfoldable pub GivenPlaces : List BodyArcs → Places → Type 0
+GivenPlaces arcs places.None = NoneBut arcs 7
+GivenPlaces arcs (places.One place) = (place < 7) × NoneBut arcs place
+GivenPlaces arcs places.Several = Unit {0}
 
 -- what is asked beside the mean Sun's arcs and the weekdays is what is said, and no more
 unfoldable pub Asks : Query → More → Type 0
@@ -58,13 +59,13 @@ unfoldable pub both_given : BodyArcs → Bool
 both_given a = a.first.given && a.second.given
 
 -- a longitude is in an arc, or the rest of the circle lies between it and the start
-unfoldable pub approach_to : Arc → ℕ → Approach
-approach_to a x = cond (in_arc a x) (record { inside = true; ahead = 0 }) (record { inside = false; ahead = circle - difference_of x a.start })
+unfoldable pub approach_to : Arc → ℕ → Option ℕ
+approach_to a x = cond (in_arc a x) None (Some (circle - difference_of x a.start))
 
--- a longitude is in one of the arcs that are given, or so far from the nearer start
-pub record Approached (a : BodyArcs) (x : ℕ) (found : Approach) : Type 0 where
-  pub within : found.inside ≡ in_some (given_arcs a) x
-  pub nearest : found.inside ≡ false → found.ahead ≡ nearest_start (given_arcs a) x
+-- a longitude will do, or it is in none of the arcs that are given, and so far from the nearer start
+unfoldable pub Approached : BodyArcs → ℕ → Option ℕ → Type 0
+Approached a x None = in_arcs a x ≡ true
+Approached a x (Some ahead) = (arcs_given a ≡ true) × (in_some (given_arcs a) x ≡ false) × (ahead ≡ nearest_start (given_arcs a) x)
 
 -- day d is the visited day number k, counted from 0
 abbrev pub VisitAt : Query → ℕ → ℕ → Type 0

@@ -1,11 +1,14 @@
 -- What a search hands back, and what it leaves in the list of entries.
 -- Assumes nothing.
-use Rattle.std.specs.Prelude.{◌≡◌, cond, List, ℕ, ◌≤◌, leb, eqb, length}
-use Rattle.days.specs.Refusals.{accepted, list_too_short}
+use Rattle.std.specs.Prelude.{◌≡◌, cond, List, ℕ, ◌≤◌, leb, eqb, length, Result, Ok, Err}
+use Rattle.days.specs.Refusals.{accepted, list_too_short, refusal_number, part_or_zero, and_then}
+use Rattle.days.specs.declared.refusal.Refusal.{Refusal}
 use Rattle.entries.specs.Entries.{capacity, with_entries, with_entries_from}
 use Rattle.query.specs.declared.Query.{Query}
-use Rattle.query.specs.Query.{refusal_of}
+use Rattle.query.specs.Query.{refusal_of, check_of}
 use Rattle.search.specs.declared.Found.{Found}
+use Rattle.search.specs.declared.SearchError.{SearchError}
+use Rattle.search.specs.declared.SearchError.TheVariants.{Refused, ListTooShort}
 use Rattle.search.specs.Days.{matching_days, visited_days, visit_limit}
 
 -- the result for a list of so many entries: 7 where the query is not refused and the lent room does not suffice. It
@@ -25,17 +28,44 @@ list_after q before = cond (eqb (result_of q (capacity before)) accepted) (with_
 unfoldable pub first_listed : Query → List ℕ → List ℕ
 first_listed q before = cond (eqb (refusal_of q) accepted) (with_entries_from before 0 (matching_days q)) before
 
--- what is handed back without a list: the true length and the number of days looked at, which are the same for 0 and 7
-pub record Measured (q : Query) (found : Found) : Type 0 where
-  pub result : found.refusal ≡ refusal_of q
-  pub count : found.length ≡ unless_refused q (length (matching_days q))
-  pub visits : found.examined ≡ unless_refused q (length (visited_days q))
-  pub limit : found.examined ≤ visit_limit q
+-- the true length and the number of days looked at, which are the same whatever list is lent
+abbrev pub found_in : Query → Found
+found_in q = record { length = length (matching_days q); examined = length (visited_days q) }
+
+-- the answer without a list
+abbrev pub measured_of : Query → Result Found Refusal
+measured_of q = and_then (check_of q) (λ (_ : Unit {0}). Ok (found_in q))
+
+-- the answer for a list of so many entries: where the query is not refused and the lent room does not suffice, that
+-- with the same numbers
+unfoldable pub in_room : ℕ → Found → Result Found SearchError
+in_room room found = cond (leb found.length room) (Ok found) (Err (ListTooShort found))
+
+unfoldable pub in_room_of : ℕ → Result Found Refusal → Result Found SearchError
+in_room_of room (Ok found) = in_room room found
+in_room_of room (Err refusal) = Err (Refused refusal)
+
+abbrev pub searched_of : Query → ℕ → Result Found SearchError
+searched_of q room = in_room_of room (measured_of q)
+
+-- of an answer: its number, 0 or that of a refusal; and the two numbers, which are 0 where the query is refused
+unfoldable pub search_number : Result Found SearchError → ℕ
+search_number (Ok found) = accepted
+search_number (Err (Refused refusal)) = refusal_number refusal
+search_number (Err (ListTooShort found)) = list_too_short
+
+unfoldable pub search_found : Result Found SearchError → Found
+search_found (Ok found) = found
+search_found (Err (Refused refusal)) = record { length = 0; examined = 0 }
+search_found (Err (ListTooShort found)) = found
+
+-- what is handed back without a list
+pub record Measured (q : Query) (found : Result Found Refusal) : Type 0 where
+  pub answer : found ≡ measured_of q
+  pub limit : part_or_zero (λ (f : Found). f.examined) found ≤ visit_limit q
 
 -- THE PROMISE of the search, with the list before and after
-pub record Searched (q : Query) (before : List ℕ) (found : Found) (after : List ℕ) : Type 0 where
-  pub result : found.refusal ≡ result_of q (capacity before)
-  pub count : found.length ≡ unless_refused q (length (matching_days q))
-  pub visits : found.examined ≡ unless_refused q (length (visited_days q))
-  pub limit : found.examined ≤ visit_limit q
+pub record Searched (q : Query) (before : List ℕ) (found : Result Found SearchError) (after : List ℕ) : Type 0 where
+  pub answer : found ≡ searched_of q (capacity before)
+  pub limit : (search_found found).examined ≤ visit_limit q
   pub list : after ≡ list_after q before

@@ -2,18 +2,22 @@
 // examines a day.
 #![tactic(auto)]
 
-ghost use Rattle.std.specs.Prelude.{◌≡◌, true, ◌+◌, ◌≤◌, length, drop};
-ghost use Rattle.days.specs.Days.{last_day};
+ghost use Rattle.std.specs.Prelude.{◌≡◌, true, ◌&&◌, ◌+◌, ◌≤◌, length, drop};
+ghost use Rattle.days.specs.Days.{last_day, in_range, weekday_on};
 ghost use Rattle.entries.specs.Entries.{capacity, with_entries_from};
-ghost use Rattle.query.specs.Conditions.{arcs_given, body_arcs_in_range};
+ghost use Rattle.query.specs.Conditions.{arcs_given, body_arcs_in_range, weekday_met};
+ghost use Rattle.panchanga.specs.TrueLongitudes.{is_edition};
 ghost use Rattle.query.specs.Query.{in_span, refusal_of};
-ghost use Rattle.search.specs.Look.{not_examined, examined_of};
+ghost use Rattle.query.specs.Parts.{others_met};
+ghost use Rattle.search.specs.declared.SearchError.TheVariants.{Refused};
+ghost use Rattle.search.specs.Look.{looked, examined_of};
 ghost use Rattle.search.specs.Days.{matching_days};
-ghost use Rattle.search.specs.Search.{Measured, Searched, first_listed};
+ghost use Rattle.search.specs.Search.{search_number, Measured, Searched, first_listed};
 ghost use Rattle.search.specs.Spans.{between};
 ghost use Rattle.search.specs.Parts.{other_arcs_given, elements_given, GivenPlaces, Asks, leading_arc, both_given, approach_to, Approached, VisitAt, first_visit, visit_after, kept, Scannable, Tallied};
 
-use days::{Day, refusal};
+use days::Day;
+use days::refusal::Refusal;
 use longitudes::{Body, CIRCLE};
 use query::{Arc, BodyArcs, Query, TRUE_BODIES, TRUE_ORDER, TrueBody};
 
@@ -28,7 +32,6 @@ const KEPT_BYTES: usize = entries::ENTRY_BYTES * KEPT;
 // Whether a day matches, and the day that the scan visits next.
 #[derive(Clone, Copy)]
 pub struct Examined {
-    pub refusal: u32,
     pub matches: bool,
     pub next: u32,
 }
@@ -36,16 +39,15 @@ pub struct Examined {
 // How many days match, and how many were examined to find them.
 #[derive(Clone, Copy)]
 pub struct Found {
-    pub refusal: u32,
     pub length: u32,
     pub examined: u32,
 }
 
-// Whether a longitude is in an arc, and else how many seconds ahead of it the arc begins.
+// Why no list was written: the query is refused, or its matching days, of which there are so many, do not fit.
 #[derive(Clone, Copy)]
-struct Approach {
-    inside: bool,
-    ahead: u32,
+pub enum SearchError {
+    Refused(Refusal),
+    ListTooShort(Found),
 }
 
 // A day that the scan visits, and how many were examined before it.
@@ -75,53 +77,41 @@ enum More {
     Several,
 }
 
-// Of how many bodies a true longitude is asked for, and the place of the last of them.
+// The places of the bodies of which a true longitude is asked for: there are none, one, or several.
 #[derive(Clone, Copy)]
-struct Places {
-    count: usize,
-    last: usize,
+enum Places {
+    None,
+    One(usize),
+    Several,
 }
 
-impl Examined {
-    fn accepted(matches: bool, next: u32) -> Examined
-        ensures { result ≡ record { refusal = 0; matches = matches; next = next } }
-    {
-        Examined {
-            refusal: refusal::NONE,
-            matches,
-            next,
-        }
-    }
+impl From<Refusal> for SearchError {
+    ghost from_gives = { λ refusal error. error ≡ Refused refusal };
 
-    fn refused(refusal: u32) -> Examined
-        ensures { result ≡ not_examined refusal }
-    {
-        Examined {
-            refusal,
-            matches: false,
-            next: 0,
-        }
+    fn from(refusal: Refusal) -> SearchError {
+        SearchError::Refused(refusal)
     }
 }
 
-impl Found {
-    fn counted(refusal: u32, tally: Tally) -> Found
-        ensures { result ≡ record { refusal = refusal; length = tally.length; examined = tally.examined } }
-    {
-        Found {
-            refusal,
-            length: tally.length,
-            examined: tally.examined,
-        }
+// Of a search's answer: 0, or the number of its refusal.
+#[tactic(auto, unfolding(crate::specs::Search::search_number))]
+pub fn search_number(answer: Result<Found, SearchError>) -> u32
+    ensures { result ≡ search_number answer }
+{
+    match answer {
+        Ok(_) => 0,
+        Err(SearchError::Refused(refusal)) => refusal.number(),
+        Err(SearchError::ListTooShort(_)) => Refusal::ListTooShort.number(),
     }
+}
 
-    fn refused(refusal: u32) -> Found
-        ensures { result ≡ record { refusal = refusal; length = 0; examined = 0 } }
+impl Tally {
+    fn found(self) -> Found
+        ensures { result ≡ record { length = self.length; examined = self.examined } }
     {
         Found {
-            refusal,
-            length: 0,
-            examined: 0,
+            length: self.length,
+            examined: self.examined,
         }
     }
 }
@@ -134,72 +124,63 @@ fn more_asked(query: Query) -> More
         return More::Several;
     }
     let true_arcs = query.true_arcs;
-    let places = given_places(true_arcs);
-    if elements_given(query) {
-        if places.count == 0 {
-            return More::Elements;
+    let elements = elements_given(query);
+    match given_places(true_arcs) {
+        Places::None => {
+            if elements {
+                More::Elements
+            } else {
+                More::Nothing
+            }
         }
-        return More::Several;
+        Places::One(place) => {
+            if elements {
+                More::Several
+            } else {
+                let body = TRUE_ORDER[place];
+                let asked = true_arcs[place];
+                More::TrueArcs { body, arcs: asked }
+            }
+        }
+        Places::Several => More::Several,
     }
-    if places.count == 0 {
-        return More::Nothing;
-    }
-    if places.count == 1 {
-        let last = places.last;
-        let body = TRUE_ORDER[last];
-        let asked = true_arcs[last];
-        return More::TrueArcs { body, arcs: asked };
-    }
-    More::Several
 }
 
+#[tactic(auto, unfolding(crate::specs::Parts::elements_given))]
 fn elements_given(query: Query) -> bool
     ensures { result ≡ elements_given query }
 {
-    if query.tithi.given {
-        return true;
-    }
-    if query.nakshatra.given {
-        return true;
-    }
-    if query.yoga.given {
-        return true;
-    }
-    query.karana.given
+    query.tithi.given || query.nakshatra.given || query.yoga.given || query.karana.given
 }
 
 fn given_places(arcs: [BodyArcs; TRUE_BODIES]) -> Places
     ensures { GivenPlaces arcs result }
 {
-    let mut count = 0;
-    let mut last = 0;
-    let mut place = 0;
-    while place < TRUE_BODIES {
-        let of_body = arcs[place];
+    let mut places = Places::None;
+    for (place, of_body) in arcs.iter().enumerate() {
         if of_body.given() {
-            count += 1;
-            last = place;
+            places = match places {
+                Places::None => Places::One(place),
+                Places::One(_) | Places::Several => Places::Several,
+            };
         }
-        place += 1;
     }
-    Places { count, last }
+    places
 }
 
 fn other_arcs_given(arcs: [BodyArcs; 9]) -> bool
     ensures { result ≡ other_arcs_given arcs }
 {
-    let mut body = 1;
-    while body < 9 {
-        let of_body = arcs[body];
+    for of_body in &arcs[1..] {
         if of_body.given() {
             return true;
         }
-        body += 1;
     }
     false
 }
 
 // Of the arcs the first that is given, or the second.
+#[tactic(auto, unfolding(crate::specs::Parts::leading_arc))]
 fn leading(arcs: BodyArcs) -> Arc
     ensures { result ≡ leading_arc arcs }
 {
@@ -210,133 +191,110 @@ fn leading(arcs: BodyArcs) -> Arc
     }
 }
 
+#[tactic(auto, unfolding(crate::specs::Parts::both_given))]
 fn both_given(arcs: BodyArcs) -> bool
     ensures { result ≡ both_given arcs }
 {
-    if arcs.first.given {
-        arcs.second.given
-    } else {
-        false
-    }
+    arcs.first.given && arcs.second.given
 }
 
-// Where a longitude stands to an arc.
-fn to_arc(arc: Arc, longitude: u32) -> Approach
+// How many seconds ahead of a longitude an arc begins, or `None` where the longitude is in it.
+fn to_arc(arc: Arc, longitude: u32) -> Option<u32>
     ensures { result ≡ approach_to arc longitude }
 {
     let past = longitudes::difference(longitude, arc.start);
     if past < arc.width {
-        return Approach {
-            inside: true,
-            ahead: 0,
-        };
-    }
-    Approach {
-        inside: false,
-        ahead: CIRCLE - past,
+        None
+    } else {
+        Some(CIRCLE - past)
     }
 }
 
-// Where a longitude stands to the arcs that are given: in one of them, or before the nearer start.
-fn nearer(arcs: BodyArcs, longitude: u32) -> Approach
+// The same of the arcs that are given: to the nearer start, or `None` where the longitude is in one of them.
+fn nearer(arcs: BodyArcs, longitude: u32) -> Option<u32>
     requires { (body_arcs_in_range arcs ≡ true) × (arcs_given arcs ≡ true) }
     ensures { Approached arcs longitude result }
 {
-    let first = to_arc(leading(arcs), longitude);
-    if first.inside {
-        return first;
-    }
+    let first = to_arc(leading(arcs), longitude)?;
     if !both_given(arcs) {
-        return first;
+        return Some(first);
     }
-    let second = to_arc(arcs.second, longitude);
-    if second.inside {
-        return second;
+    let second = to_arc(arcs.second, longitude)?;
+    Some(first.min(second))
+}
+
+// Whether a day meets what is asked beside the mean Sun's arcs and the weekdays. Where the elements or one true
+// longitude is all that is asked, these alone are handed on: a whole query is copied field by field.
+#[inline(always)]
+fn more_met(query: &Query, more: More, day: Day) -> bool
+    requires asks { Asks query.now more }
+    requires known { (is_edition query.now.edition ≡ true) × (in_range day ≡ true) }
+    ensures { result ≡ others_met query.now day }
+{
+    match more {
+        More::Nothing => true,
+        More::Elements => query::elements_met(
+            query.edition,
+            query.tithi,
+            query.nakshatra,
+            query.yoga,
+            query.karana,
+            day,
+        ),
+        More::TrueArcs { body, arcs } => query::true_arcs_have(query.edition, body, arcs, day),
+        More::Several => query::others_met(*query, day),
     }
-    if second.ahead < first.ahead {
-        second
-    } else {
-        first
+}
+
+// What is seen of a visited day with the Sun in its arcs, or with no such arc given: the weekday decides, then what
+// else is asked. (It is called in two places and inlined in both: called in one, behind an `if` for the Sun, it makes a
+// dense search execute a sixth more instructions, since the compiler then puts `others_met`, to which most days do not
+// come, into the scan's loop.)
+#[inline(always)]
+fn within(query: &Query, more: More, pair: Day, day: u32) -> Examined
+    requires asks { Asks query.now more }
+    requires known { (is_edition query.now.edition ≡ true) × (in_range pair ≡ true) × (day ≤ last_day) }
+    ensures { result ≡ record { matches = weekday_met query.now.weekdays (weekday_on day) && others_met query.now pair; next = day + 1 } }
+{
+    let weekdays = query.weekdays;
+    if !weekdays.admit(day) {
+        return Examined {
+            matches: false,
+            next: day + 1,
+        };
+    }
+    Examined {
+        matches: more_met(query, more, pair),
+        next: day + 1,
     }
 }
 
 // Paper 01's look: whether a visited day matches, and the day that the scan visits next. It is the search's only way to
 // longitudes and conditions, and by what it requires the day is the one whose turn it is; it reckons them for that day
 // and for no other. The Sun's arcs come first, since they decide the next day, then the weekday, then what else is
-// asked, which may be nothing. (That the day is one at all it tests so that the compiler reckons in 32 bits. What
-// decides a day with the Sun in its arcs stands twice: once, behind an `if` for the Sun, it makes a sparse search take
-// a tenth more time and a dense one a fifth, since the compiler then puts `others_met`, to which most days do not come,
-// into the scan's loop. Where the elements or one true longitude is all that is asked, these alone are handed on: a
-// whole query is copied field by field.)
+// asked, which may be nothing. (That the day is one at all is read off its number, so that the compiler reckons in 32
+// bits.)
 fn examine_day(query: Query, more: More, visit: Visit) -> Examined
     requires query_value { refusal_of query ≡ 0 }
     requires asks { Asks query more }
     requires day_value { in_span query visit.day ≡ true }
     requires visit_at { VisitAt query visit.examined visit.day }
-    ensures { result ≡ examined_of query visit.day }
+    ensures { result ≡ looked query visit.day }
 {
     let day = visit.day;
-    let there = Day::from_number(day);
-    if there.refusal != refusal::NONE {
-        return Examined::refused(there.refusal);
-    }
-    let pair = there.day;
-    let weekdays = query.weekdays;
+    let pair = Day::from_number(day).unwrap();
     let arcs = query.arcs[0];
     if !arcs.given() {
-        if !weekdays.admit(day) {
-            return Examined::accepted(false, day + 1);
-        }
-        return match more {
-            More::Nothing => Examined::accepted(true, day + 1),
-            More::Elements => Examined::accepted(
-                query::elements_met(
-                    query.edition,
-                    query.tithi,
-                    query.nakshatra,
-                    query.yoga,
-                    query.karana,
-                    pair,
-                ),
-                day + 1,
-            ),
-            More::TrueArcs { body, arcs } => Examined::accepted(
-                query::true_arcs_have(query.edition, body, arcs, pair),
-                day + 1,
-            ),
-            More::Several => Examined::accepted(query::others_met(query, pair), day + 1),
-        };
+        return within(&query, more, pair, day);
     }
-    let sun = longitudes::mean_longitude(Body::Sun, pair);
-    let approach = nearer(arcs, sun.seconds);
-    if approach.inside {
-        if !weekdays.admit(day) {
-            return Examined::accepted(false, day + 1);
-        }
-        return match more {
-            More::Nothing => Examined::accepted(true, day + 1),
-            More::Elements => Examined::accepted(
-                query::elements_met(
-                    query.edition,
-                    query.tithi,
-                    query.nakshatra,
-                    query.yoga,
-                    query.karana,
-                    pair,
-                ),
-                day + 1,
-            ),
-            More::TrueArcs { body, arcs } => Examined::accepted(
-                query::true_arcs_have(query.edition, body, arcs, pair),
-                day + 1,
-            ),
-            More::Several => Examined::accepted(query::others_met(query, pair), day + 1),
-        };
+    let sun = longitudes::mean_longitude(Body::Sun, pair).unwrap();
+    match nearer(arcs, sun.seconds) {
+        None => within(&query, more, pair, day),
+        Some(ahead) => Examined {
+            matches: false,
+            next: day + (ahead + (SUN_ADVANCE - 1)) / SUN_ADVANCE,
+        },
     }
-    Examined::accepted(
-        false,
-        day + (approach.ahead + (SUN_ADVANCE - 1)) / SUN_ADVANCE,
-    )
 }
 
 // The step to the next visit: the day handed back, with one more examined before it.
@@ -362,11 +320,7 @@ fn first_visit(query: Query) -> Visit
 fn in_span(query: Query, day: u32) -> bool
     ensures { result ≡ in_span query day }
 {
-    if query.first <= day {
-        day <= query.last
-    } else {
-        false
-    }
+    query.first <= day && day <= query.last
 }
 
 // The query over one day alone.
@@ -397,31 +351,27 @@ fn over_day(query: Query, day: u32) -> Query
 // What the look says of any day, for any query: the day is examined as the only one of a span, and matches where it is
 // of the query's own. It is refused as the search is; a day that is none comes before what the query is refused for,
 // but for its edition.
-pub fn examine(query: Query, day: u32) -> Examined
+pub fn examine(query: Query, day: u32) -> Result<Examined, Refusal>
     ensures { result ≡ examined_of query day }
 {
-    let refusal = query.refusal();
-    if refusal == refusal::BAD_EDITION {
-        return Examined::refused(refusal::BAD_EDITION);
+    if !panchanga::is_edition(query.edition) {
+        return Err(Refusal::BadEdition);
     }
     if Day::LAST < day {
-        return Examined::refused(refusal::OUT_OF_RANGE);
+        return Err(Refusal::OutOfRange);
     }
-    if refusal != refusal::NONE {
-        return Examined::refused(refusal);
-    }
+    query.check()?;
     let alone = over_day(query, day);
     let more = more_asked(alone);
     let visit = first_visit(alone);
     let seen = examine_day(alone, more, visit);
     if in_span(query, day) {
-        return seen;
+        return Ok(seen);
     }
-    Examined {
-        refusal: seen.refusal,
+    Ok(Examined {
         matches: false,
         next: seen.next,
-    }
+    })
 }
 
 // One pass over the visited days, from one of them up to day `until`: it counts the matching days, of which there were
@@ -460,75 +410,66 @@ fn scan(query: Query, start: Visit, count: u32, until: u32, output: &mut [u8]) -
 }
 
 // How many days match and how many the search examines, with no list.
-pub fn measure(query: Query) -> Found
+pub fn measure(query: Query) -> Result<Found, Refusal>
     ensures { Measured query result }
 {
-    let refusal = query.refusal();
-    if refusal != refusal::NONE {
-        return Found::refused(refusal);
-    }
+    query.check()?;
     let mut none = [0u8; 0];
     let start = first_visit(query);
     let tally = scan(query, start, 0, query.last, &mut none);
-    Found::counted(refusal::NONE, tally)
+    Ok(tally.found())
 }
 
 // How many days match and how many the search examines, with the first of the matching days written to the list, as
 // many as it has entries: for a list that its owner lets stand half filled.
-pub fn list_first(query: Query, list: &mut [u8]) -> Found
+pub fn list_first(query: Query, list: &mut [u8]) -> Result<Found, Refusal>
     ensures measured { Measured query result }
     ensures list_after { list.new ≡ first_listed query list.old }
 {
-    let refusal = query.refusal();
-    if refusal != refusal::NONE {
-        return Found::refused(refusal);
-    }
+    query.check()?;
     let start = first_visit(query);
     let all = scan(query, start, 0, query.last, list);
-    Found::counted(refusal::NONE, all)
+    Ok(all.found())
 }
 
 // The second pass, for the matching days behind those that the first one kept: it goes on from the visit behind the
 // last of these, up to the last match. Each day is counted once, so the numbers handed back are the first pass's.
 fn write_rest(query: Query, counted: Tally, list: &mut [u8]) -> Found
     requires { Scannable query counted.resume kept counted.latest (capacity list.old) }
-    ensures value { result ≡ record { refusal = 0; length = counted.length; examined = counted.examined } }
+    ensures value { result ≡ record { length = counted.length; examined = counted.examined } }
     ensures list_after { list.new ≡ with_entries_from list.old kept (drop kept (matching_days query)) }
 {
     let resume = counted.resume;
     scan(query, resume, KEPT as u32, counted.latest, list);
-    Found::counted(refusal::NONE, counted)
+    counted.found()
 }
 
 // Writes the matching days to the list, earliest first, or leaves it as it was. Where the list has an entry for each
 // day of the span, whatever matches fits, and one pass counts and writes; else the first ones are kept beside it until
 // it is known whether all fit. (This is one function, since each call that hands the query on has a copy of it on the
 // stack.)
-pub fn search(query: Query, list: &mut [u8]) -> Found
+pub fn search(query: Query, list: &mut [u8]) -> Result<Found, SearchError>
     ensures { Searched query list.old result list.new }
 {
-    let refusal = query.refusal();
-    if refusal != refusal::NONE {
-        return Found::refused(refusal);
-    }
+    query.check()?;
     let capacity = list.len() / entries::ENTRY_BYTES;
     let days_less_one = (query.last - query.first) as usize;
     let start = first_visit(query);
     if days_less_one < capacity {
         let tally = scan(query, start, 0, query.last, list);
-        return Found::counted(refusal::NONE, tally);
+        return Ok(tally.found());
     }
     let mut kept = [0u8; KEPT_BYTES];
     let tally = scan(query, start, 0, query.last, &mut kept);
     let needed = tally.length as usize;
     if capacity < needed {
-        return Found::counted(refusal::LIST_TOO_SHORT, tally);
+        return Err(SearchError::ListTooShort(tally.found()));
     }
     if needed <= KEPT {
         let bytes = entries::ENTRY_BYTES * needed;
         entries::copy(&kept[..bytes], list);
-        return Found::counted(refusal::NONE, tally);
+        return Ok(tally.found());
     }
     entries::copy(&kept, list);
-    write_rest(query, tally, list)
+    Ok(write_rest(query, tally, list))
 }

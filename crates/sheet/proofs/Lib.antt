@@ -1,4 +1,3 @@
 pub mod Columns
 pub mod Fitting
-pub mod Answers
 pub mod Worked

@@ -1,9 +1,9 @@
 -- The day sheet: from the bytes of the input to the bytes that are printed, paper 01's two lines or its refusal.
 -- Assumes nothing.
-use Rattle.std.specs.Prelude.{cond, List, [], ◌∷◌, ◌++◌, ℕ, eqb}
+use Rattle.std.specs.Prelude.{List, [], ◌∷◌, ◌++◌, ℕ, Result, Ok, Err}
 use Rattle.days.specs.declared.Day.{Day}
-use Rattle.days.specs.declared.NumberAnswer.{NumberAnswer}
-use Rattle.days.specs.Refusals.{accepted}
+use Rattle.days.specs.declared.refusal.Refusal.{Refusal}
+use Rattle.days.specs.Refusals.{refusal_number}
 use Rattle.days.specs.Days.{pair_at, weekday_on}
 use Rattle.panchanga.specs.TrueLongitudes.{first_edition}
 use Rattle.panchanga.specs.OnDays.{true_sun_at, true_moon_at, tithi_at, nakshatra_at, yoga_at, karana_at}
@@ -34,8 +34,11 @@ columns n =
 unfoldable pub two_lines : ℕ → List ℕ
 two_lines n = sheet_heading ++ (digits_of n ++ (spaced (columns n) ++ ascii "\n"))
 
+-- what is printed for a day that was read, or was refused
+abbrev pub sheet_for : Result ℕ Refusal → List ℕ
+sheet_for (Ok n) = two_lines n
+sheet_for (Err r) = refusal_line (refusal_number r)
+
 -- what is printed for an input
 unfoldable pub sheet_of : List ℕ → List ℕ
-sheet_of bs =
-    let read : NumberAnswer = day_input bs in
-    cond (eqb read.refusal accepted) (two_lines read.number) (refusal_line read.refusal)
+sheet_of bs = sheet_for (day_input bs)

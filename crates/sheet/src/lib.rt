@@ -2,27 +2,28 @@
 #![tactic(auto)]
 
 ghost use Rattle.std.specs.Prelude.{◌≡◌, ◌≤◌};
-ghost use Rattle.days.specs.Days.{last_day, pair_at};
+ghost use Rattle.days.specs.Days.{last_day};
 ghost use Rattle.text.specs.Lines.{Holds};
 ghost use Rattle.sheet.specs.Sheets.{two_lines, sheet_of};
 
-use days::{Day, refusal};
+use days::Day;
+use panchanga::FIRST_EDITION;
 use text::{Line, refusal_line};
 
 // The heading and the day's numbers.
-fn two_lines(number: u32, day: Day) -> Line
-    requires { (number ≤ last_day) × (day ≡ pair_at number) }
+fn two_lines(number: u32) -> Line
+    requires { number ≤ last_day }
     ensures { Holds result (two_lines number) }
 {
-    let weekday = day.weekday();
-    let elements = panchanga::of_day(panchanga::FIRST_EDITION, day);
+    let day = Day::at(number);
+    let elements = panchanga::of_day(FIRST_EDITION, day).unwrap();
     let started = Line::empty()
         .text(b"day cycle within weekday sun moon tithi nakshatra yoga karana\n")
         .number(number);
     let columns = [
         day.cycle,
         day.within,
-        weekday.number,
+        days::weekday_on(number),
         elements.sun,
         elements.moon,
         elements.tithi,
@@ -34,13 +35,12 @@ fn two_lines(number: u32, day: Day) -> Line
 }
 
 // All that is printed for an input.
+#[tactic(auto, unfolding(crate::specs::Sheets::sheet_of))]
 pub fn sheet(input: &[u8]) -> Line
     ensures { Holds result (sheet_of input.now) }
 {
-    let read = text::read_day(input);
-    if read.refusal != refusal::NONE {
-        return refusal_line(read.refusal);
+    match text::read_day(input) {
+        Ok(number) => two_lines(number),
+        Err(refusal) => refusal_line(refusal.number()),
     }
-    let answer = Day::from_number(read.number);
-    two_lines(read.number, answer.day)
 }

@@ -6,22 +6,27 @@ use mathlib.Core.Path.{◌≡◌, refl, sym, ap, ap₂, ◌∙◌}
 use Prim.Native.Nat.{ℕ, suc, ◌+◌, ◌≤◌, ◌<◌}
 use native.Mathlib.Omega.{arith}
 use lib.ListN.{length, get_or}
-use borrow.Author.Tests.{eq-eqb, ne_eqb}
-use Rattle.days.specs.Days.{the_number}
-use Rattle.days.proofs.Laws.{Span as Ordered, accepts-span}
+use Rattle.std.specs.Prelude.{Result, Ok, Err}
+use Rattle.days.specs.declared.refusal.Refusal.{Refusal}
+use Rattle.days.specs.Days.{check_span}
+use Rattle.days.proofs.Laws.{Span as Ordered, over-span}
+use Rattle.entries.specs.declared.NotPut.{NotPut}
 use Rattle.entries.specs.Entries.{capacity, entry_at, with_entries}
 use Rattle.entries.proofs.Lists.{has-at}
 use Rattle.span_line.specs.declared.Span.{Span}
 use Rattle.span_line.specs.SpanLine.{span_input}
 use Rattle.span_line.proofs.Marks.{as_before, accepted-marked}
-use Rattle.zodiac.specs.declared.Listing.{Listing}
 use Rattle.zodiac.specs.declared.Sun.{Sun}
 use Rattle.zodiac.specs.declared.Sun.TheVariants.{Mean}
 use Rattle.zodiac.specs.Zodiac.{sign_entries, listing_of, entries_after}
 use Rattle.zodiac.proofs.Answers.{all-written}
 use Rattle.zodiac.proofs.Laws.{entered_only, entries-most, entered-read}
 use Rattle.sign_sheet.specs.SignSheets.{sign_heading, sign_line, sign_lines, asked, sun_meant, sun_asked, sign_lines_for, no_listing, listed_line, entry_lines, most_entries, listing_lines}
-use Rattle.sign_sheet.proofs.Lines.{accepted-lines, day-due}
+use Rattle.sign_sheet.proofs.Lines.{accepted-lines, entered-lines, day-due}
+
+-- a span in order is not refused
+accepts-check : (first last : ℕ) → Ordered first last → Ok tt ≡ check_span first last
+accepts-check first last o = sym (over-span (Ok tt) o)
 
 -- the lines from entry k on, where each is the line of the day at its place
 lines_of :
@@ -46,32 +51,34 @@ module _ (sun : Sun) (first last : ℕ) (o : Ordered first last) (list : List �
   entry : (i : ℕ) → i < length days → listed_line sun (entry_at (with_entries days list) i) ≡ sign_line sun (get_or days i 0)
   entry i h =
       let day = (entered_only sun first last _ o.ordered (has-at i days h)).to_last in
-      ap (listed_line sun) (entered-read sun first last o.ordered list i o.ends fits h) ∙ day-due sun (the_number (get_or days i 0)) refl (omega (arith, day, o.ends))
+      day-due sun (with_entries days list) i (sym (entered-read sun first last o.ordered list i o.ends fits h)) (omega (arith, day, o.ends))
 
   all-entered : listing_lines sun (listing_of sun first last (capacity list)) (entries_after sun first last list) ≡ sign_heading ∷ map (sign_line sun) days
   all-entered =
-      let written = all-written sun first last list (length days) (accepts-span first last o.ordered o.ends) refl (with_entries days list) fits refl in
+      let written = all-written sun first last list (length days) (accepts-check first last o) refl (with_entries days list) fits refl in
       rw (sym written.0, sym written.1)
-      (accepted-lines sun _ (with_entries days list) refl ∙ ap (λ (ls : List (List ℕ)). sign_heading ∷ ls) (lines_of sun (with_entries days list) days 0 (λ i h. let front : 0 + i ≡ i = omega arith in rw front (entry i h))))
+      (accepted-lines sun (length days) (with_entries days list)
+      ∙ entered-lines sun (length days) (with_entries days list)
+      ∙ ap (λ (ls : List (List ℕ)). sign_heading ∷ ls) (lines_of sun (with_entries days list) days 0 (λ i h. let front : 0 + i ≡ i = omega arith in rw front (entry i h))))
 
 -- THE LAW: the lines of a listing are those that are printed for its input; of a refused span, and of one whose entries
 -- have room in the list
-module _ (sun : Sun) (s : Span) (input list : List ℕ) (es : sun ≡ sun_asked input) (e : s ≡ (asked input).span) where
-  pub refused-together : (s.refusal ≡ 0 → ⊥) → listing_lines sun (no_listing s.refusal) list ≡ sign_lines_for input
+module _ (sun : Sun) (input list : List ℕ) (es : sun ≡ sun_asked input) where
+  pub refused-together : {r : Refusal} → (asked input).span ≡ Err r → listing_lines sun (no_listing r) list ≡ sign_lines_for input
   unfolding sign_lines listing_lines
-  refused-together r = rw (← es, ← e, ne_eqb s.refusal 0 r)
+  refused-together e = rw (← es, e)
 
   pub listed-together :
-      s.refusal ≡ 0 →
+      {s : Span} →
+      (asked input).span ≡ Ok s →
       most_entries ≤ capacity list →
-      (found : Listing) (after : List ℕ) →
+      (found : Result ℕ NotPut) (after : List ℕ) →
       found ≡ listing_of sun s.first s.last (capacity list) →
       after ≡ entries_after sun s.first s.last list →
       listing_lines sun found after ≡ sign_lines_for input
   unfolding sign_lines
-  listed-together r room found after ef ea =
-      let ordered = accepted-marked _ input (ap (λ (a : Span). a.refusal) (sym e) ∙ r) in
-      rw (ef, ea, ← es, ← e, eq-eqb s.refusal 0 r) (all-entered sun s.first s.last (rw (← e) at ordered) list room)
+  listed-together {s} e room found after ef ea =
+      rw (ef, ea, ← es, e) (all-entered sun s.first s.last (accepted-marked _ input e) list room)
 
 -- THE LAW: without the word `true` the lines are those of the mean Sun, for the span that the line means elsewhere
 pub without-true : (input : List ℕ) → (asked input).marked ≡ false → sign_lines_for input ≡ sign_lines Mean (span_input input)

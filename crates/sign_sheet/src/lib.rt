@@ -6,11 +6,12 @@ ghost use Rattle.days.specs.Days.{last_day};
 ghost use Rattle.entries.specs.Entries.{capacity, entry_at};
 ghost use Rattle.text.specs.Lines.{Holds};
 ghost use Rattle.text.specs.Sheets.{line_at};
-ghost use Rattle.sign_sheet.specs.SignSheets.{sun_meant, sign_heading, sign_line, sign_lines_for, listed_line, listing_lines, listed_for, list_for};
+ghost use Rattle.sign_sheet.specs.SignSheets.{sun_meant, sign_heading, sign_line, sign_lines_for, listed_line, lines_listed, listing_lines, listed_for, list_for};
 
-use days::{Day, refusal};
+use days::Day;
+use entries::NotPut;
 use text::Line;
-use zodiac::{Listing, Sun};
+use zodiac::Sun;
 
 // The most entries that a span has, by either Sun: those of all days.
 pub const MOST_ENTRIES: usize = 13194;
@@ -22,7 +23,7 @@ pub const LIST: usize = entries::ENTRY_BYTES * MOST_ENTRIES;
 #[derive(Clone, Copy)]
 pub struct Listed {
     pub sun: Sun,
-    pub listing: Listing,
+    pub listing: Result<u32, NotPut>,
 }
 
 // The true Sun where the word `true` stands behind the days, else the mean one.
@@ -41,17 +42,16 @@ pub fn list_entries(input: &[u8], list: &mut [u8; LIST]) -> Listed
 {
     let asked = span_line::of_marked_input(input, b"true");
     let sun = sun_meant(asked.marked);
-    let span = asked.span;
-    if span.refusal != refusal::NONE {
-        let listing = Listing {
-            refusal: span.refusal,
-            length: 0,
-            examined: 0,
-        };
-        return Listed { sun, listing };
+    match asked.span {
+        Ok(span) => {
+            let listing = zodiac::entries_by(sun, span.first, span.last, list);
+            Listed { sun, listing }
+        }
+        Err(refusal) => Listed {
+            sun,
+            listing: Err(NotPut::Refused(refusal)),
+        },
     }
-    let listing = zodiac::entries_by(sun, span.first, span.last, list);
-    Listed { sun, listing }
 }
 
 fn heading() -> Line
@@ -64,10 +64,9 @@ fn entry_line(sun: Sun, day: u32) -> Line
     requires { day ≤ last_day }
     ensures { Holds result (sign_line sun day) }
 {
-    let answer = Day::from_number(day);
-    let sign = zodiac::sign_by(sun, answer.day);
+    let sign = zodiac::sign_by(sun, Day::at(day)).unwrap();
     dated::put_named_day(Line::empty(), day)
-        .numbers(&[sign.number])
+        .numbers(&[sign])
         .byte(b'\n')
 }
 
@@ -75,40 +74,48 @@ fn entry_line(sun: Sun, day: u32) -> Line
 fn listed_line(sun: Sun, list: &[u8], index: usize) -> Line
     ensures { Holds result (listed_line sun (entry_at list.now index)) }
 {
-    let due = entries::entry_at(list, index);
-    if due.refusal != refusal::NONE {
+    let Ok(due) = entries::entry_at(list, index) else {
+        return Line::empty();
+    };
+    if Day::LAST < due {
         return Line::empty();
     }
-    if Day::LAST < due.number {
-        return Line::empty();
-    }
-    entry_line(sun, due.number)
+    entry_line(sun, due)
 }
 
 // How many lines are printed for a listing; a refusal is one.
-pub fn line_count(listing: Listing) -> usize
+pub fn line_count(listing: Result<u32, NotPut>) -> usize
     ensures { (sun : Sun) (list : List ℕ) → result ≡ length (listing_lines sun listing list) }
 {
-    if listing.refusal != refusal::NONE {
-        return 1;
+    match listing {
+        Ok(length) => 1 + length as usize,
+        Err(_) => 1,
     }
-    1 + listing.length as usize
 }
 
 // One of the lines that are printed for a listing, counted from 0; behind the last one nothing.
-pub fn line(sun: Sun, listing: Listing, list: &[u8; LIST], index: usize) -> Line
+pub fn line(sun: Sun, listing: Result<u32, NotPut>, list: &[u8; LIST], index: usize) -> Line
     ensures { Holds result (line_at (listing_lines sun listing list.now) index) }
 {
-    if listing.refusal != refusal::NONE {
-        if index == 0 {
-            return text::refusal_line(listing.refusal);
+    match listing {
+        Ok(length) => line_of(sun, length, list, index),
+        Err(not) => {
+            if index == 0 {
+                return text::refusal_line(not.refusal().number());
+            }
+            Line::empty()
         }
-        return Line::empty();
     }
+}
+
+// The same for so many entries.
+fn line_of(sun: Sun, length: u32, list: &[u8; LIST], index: usize) -> Line
+    ensures { Holds result (line_at (lines_listed sun length list.now) index) }
+{
     if index == 0 {
         return heading();
     }
-    if (listing.length as usize) < index {
+    if (length as usize) < index {
         return Line::empty();
     }
     listed_line(sun, list, index - 1)

@@ -2,57 +2,57 @@
 // word `true` behind the span, the true one.
 #![tactic(auto)]
 
+ghost use Rattle.std.specs.Prelude.{◌≡◌};
 ghost use Rattle.output.specs.Output.{AllWritten};
-ghost use Rattle.text.specs.Sheets.{Between};
-ghost use Rattle.sign_sheet.specs.SignSheets.{sign_lines_for};
+ghost use Rattle.sign_sheet.specs.SignSheets.{listing_lines, sign_lines_for};
 
-use output::Written;
-use text::PIECE;
+use output::{NotWritten, Sheet};
+use sign_sheet::{LIST, Listed};
+use text::Line;
 
-// The only way to print. By what it requires the bytes are the sheet's from one line to before another.
-fn print_between(input: &[u8], from: usize, to: usize, bytes: &[u8]) -> bool
-    requires { Between (sign_lines_for input.now) from to bytes.now }
-{
-    output::print_bytes(bytes)
+// The sheet of the entries that were listed.
+#[derive(Clone, Copy)]
+struct SignSheet<'a> {
+    listed: Listed,
+    list: &'a [u8; LIST],
 }
 
-// As many lines as fit whole are put into the buffer and printed at once.
-fn print_signs(input: &[u8]) -> Written
+impl<'a> Sheet for SignSheet<'a> {
+    ghost lines = { λ s. listing_lines s.listed.sun s.listed.listing s.list.now };
+
+    fn line_count(&self) -> usize {
+        sign_sheet::line_count(self.listed.listing)
+    }
+
+    fn line(&self, index: usize) -> Line {
+        sign_sheet::line(self.listed.sun, self.listed.listing, self.list, index)
+    }
+}
+
+// The only way to print. By what it requires the sheet is the input's.
+fn print_lines(input: &[u8], sheet: &SignSheet) -> Result<usize, NotWritten>
+    requires { listing_lines sheet.now.listed.sun sheet.now.listed.listing sheet.now.list.now ≡ sign_lines_for input.now }
     ensures { AllWritten (sign_lines_for input.now) result }
 {
-    let mut list = [0u8; sign_sheet::LIST];
+    output::print_sheet(sheet)
+}
+
+fn print_signs(input: &[u8]) -> Result<usize, NotWritten>
+    ensures { AllWritten (sign_lines_for input.now) result }
+{
+    let mut list = [0u8; LIST];
     let listed = sign_sheet::list_entries(input, &mut list);
-    let sun = listed.sun;
-    let listing = listed.listing;
-    let lines = sign_sheet::line_count(listing);
-    let mut buffer = [0u8; PIECE];
-    let mut from: usize = 0;
-    let mut bytes: usize = 0;
-    let mut index: usize = 0;
-    while index < lines {
-        let line = sign_sheet::line(sun, listing, &list, index);
-        let len = line.len;
-        if PIECE - bytes < len {
-            if !print_between(input, from, index, &buffer[..bytes]) {
-                return Written {
-                    lines: from,
-                    whole: false,
-                };
-            }
-            from = index;
-            bytes = 0;
-        }
-        line.put(&mut buffer, bytes);
-        bytes += len;
-        index += 1;
-    }
-    let whole = print_between(input, from, lines, &buffer[..bytes]);
-    Written { lines, whole }
+    print_lines(
+        input,
+        &SignSheet {
+            listed,
+            list: &list,
+        },
+    )
 }
 
 fn main(rt: HostRuntime) {
     let mut stdin = rt.stdin();
     let mut buffer = [0u8; text::TOO_LONG];
-    let n = input::read_input(&mut stdin, &mut buffer);
-    print_signs(&buffer[..n]);
+    let _ = print_signs(input::read_bytes(&mut stdin, &mut buffer));
 }

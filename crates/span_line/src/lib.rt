@@ -3,105 +3,85 @@
 #![tactic(auto)]
 
 ghost use Rattle.std.specs.Prelude.{◌≡◌};
-ghost use Rattle.span_line.specs.SpanLine.{no_span, both_days, span_line, span_read, span_input};
+ghost use Rattle.span_line.specs.SpanLine.{both_days, span_line, span_read, span_input};
 ghost use Rattle.span_line.specs.Marked.{is_marked, not_marked, marked_line, marked_input};
 
-use days::{NumberAnswer, refusal};
+use days::refusal::Refusal;
 use text::TOO_LONG;
 use values::day;
 use words::{after_word, after_words, first_word, place_in, run_length, up_to};
 
-// A line that has been read: the refusal's number, or 0, and the first and the last day. A refusal has days of zero.
+// The first and the last day of a line.
 #[derive(Clone, Copy)]
 pub struct Span {
-    pub refusal: u32,
     pub first: u32,
     pub last: u32,
 }
 
-// A span, and whether the mark stands behind its days.
+// A line's span or its refusal, and whether the mark stands behind its days.
 #[derive(Clone, Copy)]
 pub struct Marked {
-    pub span: Span,
+    pub span: Result<Span, Refusal>,
     pub marked: bool,
 }
 
-fn refused(refusal: u32) -> Span
-    ensures { result ≡ no_span refusal }
-{
-    Span {
-        refusal,
-        first: 0,
-        last: 0,
-    }
-}
-
 // Both days: of two refusals the first in a page's order, and the span's own behind them.
-fn both_days(first: NumberAnswer, last: NumberAnswer) -> Span
+#[tactic(auto, unfolding(crate::specs::SpanLine::both_days))]
+fn both_days(first: Result<u32, Refusal>, last: Result<u32, Refusal>) -> Result<Span, Refusal>
     ensures { result ≡ both_days first last }
 {
-    let of_days = page::first_refusal(first.refusal, last.refusal);
-    if of_days != refusal::NONE {
-        return refused(of_days);
-    }
-    let of_span = days::span_refusal(first.number, last.number);
-    if of_span != refusal::NONE {
-        return refused(of_span);
-    }
-    Span {
-        refusal: refusal::NONE,
-        first: first.number,
-        last: last.number,
-    }
+    let (first, last) = page::both(first, last)?;
+    days::check_span(first, last)?;
+    Ok(Span { first, last })
 }
 
 // The days of a line that has two words.
-fn read_days(line: &[u8]) -> Span
+fn read_days(line: &[u8]) -> Result<Span, Refusal>
     ensures { result ≡ span_line line.now }
 {
     let body = up_to(line, b'#');
     let others = after_word(body);
     let more = first_word(after_word(others));
-    if more.len() != 0 {
-        return refused(refusal::BAD_INPUT);
+    if !more.is_empty() {
+        return Err(Refusal::BadInput);
     }
     both_days(day(first_word(body)), day(first_word(others)))
 }
 
 // The span that a text means, or its refusal.
-pub fn read(text: &[u8]) -> Span
+#[tactic(auto, unfolding(crate::specs::SpanLine::span_read, crate::specs::SpanLine::is_one_line))]
+pub fn read(text: &[u8]) -> Result<Span, Refusal>
     ensures { result ≡ span_read text.now }
 {
     let end = run_length(text, b'\n', false);
     if end + 1 != text.len() {
-        return refused(refusal::BAD_INPUT);
+        return Err(Refusal::BadInput);
     }
     read_days(up_to(text, b'\n'))
 }
 
 // The span that a program's input means.
-pub fn of_input(input: &[u8]) -> Span
+#[tactic(auto, unfolding(crate::specs::SpanLine::span_input))]
+pub fn of_input(input: &[u8]) -> Result<Span, Refusal>
     ensures { result ≡ span_input input.now }
 {
     if TOO_LONG <= input.len() {
-        return refused(refusal::BAD_INPUT);
+        return Err(Refusal::BadInput);
     }
     read(input)
 }
 
 // The mark is the third word, and the last.
+#[tactic(auto, unfolding(crate::specs::Marked::is_marked))]
 fn is_marked(body: &[u8], mark: &[u8]) -> bool
     ensures { result ≡ is_marked mark.now body.now }
 {
     let third = first_word(after_words(body, 2));
-    if place_in(mark, third) != 0 {
-        return false;
-    }
     let more = first_word(after_words(body, 3));
-    more.len() == 0
+    place_in(mark, third) == 0 && more.is_empty()
 }
 
-fn not_marked(span: Span) -> Marked
+fn not_marked(span: Result<Span, Refusal>) -> Marked
     ensures { result ≡ not_marked span }
 {
     Marked {
@@ -110,6 +90,7 @@ fn not_marked(span: Span) -> Marked
     }
 }
 
+#[tactic(auto, unfolding(crate::specs::Marked::marked_line))]
 fn read_marked(line: &[u8], mark: &[u8]) -> Marked
     ensures { result ≡ marked_line mark.now line.now }
 {
@@ -123,15 +104,16 @@ fn read_marked(line: &[u8], mark: &[u8]) -> Marked
 }
 
 // The span that a program's input means, where a mark may stand behind the days.
+#[tactic(auto, unfolding(crate::specs::Marked::marked_input, crate::specs::SpanLine::is_one_line))]
 pub fn of_marked_input(input: &[u8], mark: &[u8]) -> Marked
     ensures { result ≡ marked_input mark.now input.now }
 {
     if input.len() >= TOO_LONG {
-        return not_marked(refused(refusal::BAD_INPUT));
+        return not_marked(Err(Refusal::BadInput));
     }
     let end = run_length(input, b'\n', false);
     if end + 1 != input.len() {
-        return not_marked(refused(refusal::BAD_INPUT));
+        return not_marked(Err(Refusal::BadInput));
     }
     read_marked(up_to(input, b'\n'), mark)
 }

@@ -11,8 +11,8 @@ use native.Mathlib.Numerals.{add-one}
 use lib.ListN.{length, get_or, drop, drop_of_length-le}
 use lib.Seq.{drop-cons}
 use borrow.Author.Tests.{le-leb, lt-leb}
-use Rattle.days.specs.Refusals.{bad_input}
-use Rattle.days.specs.Days.{the_number, no_number}
+use Rattle.std.specs.Prelude.{Ok, Err}
+use Rattle.days.specs.declared.refusal.Refusal.TheVariants.{BadInput}
 use Rattle.text.specs.Decimal.{is_digit, all_digits, with_digit, value_of, is_number, number_read}
 
 pub is_digit_lem : (b : ℕ) → code "0" ≤ b → b ≤ code "9" → is_digit b ≡ true
@@ -27,11 +27,11 @@ pub above-digits : (b : ℕ) → code "9" < b → is_digit b ≡ false
 unfolding is_digit
 above-digits b h = rw (le-leb (code "0") b (omega arith), lt-leb b (code "9") h)
 
-pub read_none : (s : List ℕ) → length s ≡ 0 → number_read s ≡ no_number bad_input
+pub read_none : (s : List ℕ) → length s ≡ 0 → number_read s ≡ Err BadInput
 unfolding number_read is_number
 read_none s h = rw (lt-leb 1 (length s) (omega arith))
 
-pub read-long : (s : List ℕ) → 9 < length s → number_read s ≡ no_number bad_input
+pub read-long : (s : List ℕ) → 9 < length s → number_read s ≡ Err BadInput
 unfolding number_read is_number
 read-long s h = rw (le-leb 1 (length s) (omega arith), lt-leb (length s) 9 h)
 
@@ -40,7 +40,7 @@ pub read-few :
     (s : List ℕ) →
     1 ≤ length s →
     length s ≤ 9 →
-    number_read s ≡ cond (all_digits s) (the_number (value_of s)) (no_number bad_input)
+    number_read s ≡ cond (all_digits s) (Ok (value_of s)) (Err BadInput)
 unfolding number_read is_number
 read-few s some few = rw (le-leb 1 (length s) some, le-leb (length s) 9 few)
 
@@ -67,7 +67,7 @@ module _ (s : List ℕ) (n i : ℕ) (r : Reading s n i) (more : i < length s) wh
   pub reading-fits : length s ≤ 9 → n < 100000000
   reading-fits few = omega (arith, pow-le-pow_right {n = 10} (omega arith) {i = i} {j = 8} (omega arith))
 
-  pub reading-bad : 1 ≤ length s → length s ≤ 9 → is_digit (get_or s i 0) ≡ false → number_read s ≡ no_number bad_input
+  pub reading-bad : 1 ≤ length s → length s ≤ 9 → is_digit (get_or s i 0) ≡ false → number_read s ≡ Err BadInput
   reading-bad some few e =
       let bad : all_digits s ≡ false = sym next-good ∙ rw e in
       read-few s some few ∙ rw bad
@@ -87,9 +87,9 @@ pub reading-end :
     length s ≤ i →
     1 ≤ length s →
     length s ≤ 9 →
-    the_number n ≡ number_read s
+    Ok n ≡ number_read s
 unfolding all_digits
 reading-end s n i r end some few =
     let none = drop_of_length-le s {i = i} end in
     let value = ap (foldl with_digit n) (sym none) ∙ r.ahead in
-    ap the_number value ∙ sym (read-few s some few ∙ rw (sym r.good ∙ ap all_digits none))
+    ap Ok value ∙ sym (read-few s some few ∙ rw (sym r.good ∙ ap all_digits none))

@@ -5,7 +5,7 @@ use mathlib.Core.Path.{◌≡◌, refl, sym, ◌∙◌}
 use mathlib.Core.Bool.{true, ◌&&◌, and_assoc}
 use mathlib.Core.List.{List, [], ◌∷◌, ◌++◌, foldl-append}
 use native.Mathlib.Omega.{arith}
-use Rattle.days.specs.Days.{the_number}
+use Rattle.std.specs.Prelude.{Ok}
 use Rattle.text.specs.Decimal.{is_digit, all_digits, with_digit, value_of, number_read, digit_byte, digits_of}
 use Rattle.text.proofs.Printing.{digits-induct, digits-some, digits-length}
 use Rattle.text.proofs.Reading.{is_digit_lem, read-few}
@@ -35,6 +35,6 @@ digits_value =
     (λ n s h ih. rw (foldl-append with_digit 0 s (digit_byte (n % 10) ∷ []), ih) (omega arith))
 
 -- what was printed reads as the number again
-pub read-digits : (n : ℕ) → n < 1000000000 → number_read (digits_of n) ≡ the_number n
+pub read-digits : (n : ℕ) → n < 1000000000 → number_read (digits_of n) ≡ Ok n
 read-digits n h =
     read-few (digits_of n) (digits-some n) (digits-length 8 n h) ∙ rw (digits-all n, digits_value n)

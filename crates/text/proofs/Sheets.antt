@@ -72,7 +72,7 @@ not-put buffer at bytes h = (sym (lt-leb (at + length bytes) (length buffer) h),
 
 -- a line's contents are as many of its bytes as its length says, and there are
 module _ (l : Line) (n : ℕ) (size : length l.bytes ≡ line_capacity) (e : n ≡ min l.len line_capacity) where
-  contents-are : contents l ≡ take n l.bytes
+  pub contents-are : contents l ≡ take n l.bytes
   unfolding contents
   contents-are = go (dec_le l.len line_capacity)
     where

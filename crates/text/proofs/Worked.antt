@@ -2,8 +2,8 @@
 -- nothing.
 use mathlib.Core.Path.{◌≡◌, refl}
 use mathlib.Core.List.{[], ◌∷◌}
-use Rattle.days.specs.Refusals.{bad_input}
-use Rattle.days.specs.Days.{the_number, no_number}
+use Rattle.std.specs.Prelude.{Ok, Err}
+use Rattle.days.specs.declared.refusal.Refusal.TheVariants.{BadInput}
 use Rattle.text.specs.Ascii.{ascii}
 use Rattle.text.specs.Decimal.{is_digit, all_digits, with_digit, value_of, is_number, number_read, digits_within, digits_of}
 
@@ -23,6 +23,6 @@ pub read :
     ∷ number_read (ascii ":")
     ∷ number_read (ascii "0000000000")
     ∷ []
-    ≡ the_number 7 ∷ the_number 59 ∷ no_number bad_input ∷ no_number bad_input ∷ no_number bad_input ∷ no_number bad_input ∷ []
+    ≡ Ok 7 ∷ Ok 59 ∷ Err BadInput ∷ Err BadInput ∷ Err BadInput ∷ Err BadInput ∷ []
 unfolding number_read is_number all_digits is_digit value_of with_digit
 read = refl

@@ -1,10 +1,9 @@
 -- Decimal numbers as ASCII bytes, the most significant digit first: what is read from them, and what is printed.
-use Rattle.std.specs.Prelude.{ℕ, zero, suc, ◌+◌, ◌-◌, ◌*◌, ◌/◌, ◌%◌, Bool, true, false, cond, ◌&&◌, leb, ltb, length}
+use Rattle.std.specs.Prelude.{ℕ, zero, suc, ◌+◌, ◌-◌, ◌*◌, ◌/◌, ◌%◌, Bool, true, false, cond, ◌&&◌, leb, ltb, length, Result, Ok, Err}
 use Prim.Native.Char.{code}
 use mathlib.Core.List.{List, [], ◌∷◌, ◌++◌, foldl}
-use Rattle.days.specs.declared.NumberAnswer.{NumberAnswer}
-use Rattle.days.specs.Refusals.{bad_input}
-use Rattle.days.specs.Days.{the_number, no_number}
+use Rattle.days.specs.declared.refusal.Refusal.{Refusal}
+use Rattle.days.specs.declared.refusal.Refusal.TheVariants.{BadInput}
 
 -- the bytes from `0` to `9`
 unfoldable pub is_digit : ℕ → Bool
@@ -26,8 +25,8 @@ unfoldable pub is_number : List ℕ → Bool
 is_number bs = leb 1 (length bs) && (leb (length bs) 9 && all_digits bs)
 
 -- the number, or paper 01's refusal of a bad line
-unfoldable pub number_read : List ℕ → NumberAnswer
-number_read bs = cond (is_number bs) (the_number (value_of bs)) (no_number bad_input)
+unfoldable pub number_read : List ℕ → Result ℕ Refusal
+number_read bs = cond (is_number bs) (Ok (value_of bs)) (Err BadInput)
 
 -- the byte of a digit
 abbrev pub digit_byte : ℕ → ℕ

@@ -1,13 +1,14 @@
 // Decimal numbers, days as input, and lines of output: a number is read and printed by one function each.
 #![tactic(auto)]
 
-ghost use Rattle.std.specs.Prelude.{◌≡◌, ◌≤◌, min, length, drop};
+ghost use Rattle.std.specs.Prelude.{◌≡◌, ◌≤◌, length, drop};
 ghost use Rattle.text.specs.Decimal.{number_read, digits_of};
 ghost use Rattle.text.specs.Inputs.{input_read, day_input};
 ghost use Rattle.text.specs.Lines.{empty_line, contents, with_byte, with_bytes, ended, spaced, Holds, refusal_line};
 ghost use Rattle.text.specs.Sheets.{fits_at, put_at};
 
-use days::{Day, NumberAnswer, refusal};
+use days::Day;
+use days::refusal::Refusal;
 
 // A text that a program reads whole has fewer bytes: one that fills a buffer of so many is longer, or could not be read
 // to its end.
@@ -34,66 +35,44 @@ struct Digits {
 }
 
 // At most nine digits, so that every value fits.
-pub fn read_decimal(digits: &[u8]) -> NumberAnswer
+pub fn read_decimal(digits: &[u8]) -> Result<u32, Refusal>
     ensures { result ≡ number_read digits.now }
 {
-    if digits.len() == 0 {
-        return NumberAnswer::refused(refusal::BAD_INPUT);
-    }
-    if 9 < digits.len() {
-        return NumberAnswer::refused(refusal::BAD_INPUT);
+    if digits.is_empty() || 9 < digits.len() {
+        return Err(Refusal::BadInput);
     }
     let mut number: u32 = 0;
-    let mut i = 0;
-    while i < digits.len() {
-        let digit = digits[i];
-        if digit < b'0' {
-            return NumberAnswer::refused(refusal::BAD_INPUT);
+    for &digit in digits {
+        match digit {
+            b'0'..=b'9' => number = 10 * number + (digit - b'0') as u32,
+            _ => return Err(Refusal::BadInput),
         }
-        if b'9' < digit {
-            return NumberAnswer::refused(refusal::BAD_INPUT);
-        }
-        number = 10 * number + (digit - b'0') as u32;
-        i += 1;
     }
-    NumberAnswer::accepted(number)
+    Ok(number)
 }
 
 // The number of an input that is 1 to 6 decimal digits and one newline.
-fn read_line(input: &[u8]) -> NumberAnswer
+#[tactic(auto, unfolding(crate::specs::Inputs::input_read, crate::specs::Inputs::is_line))]
+fn read_line(input: &[u8]) -> Result<u32, Refusal>
     ensures { result ≡ input_read input.now }
 {
-    if input.len() == 0 {
-        return NumberAnswer::refused(refusal::BAD_INPUT);
+    match input.split_last() {
+        Some((b'\n', digits)) if digits.len() <= DAY_DIGITS => read_decimal(digits),
+        _ => Err(Refusal::BadInput),
     }
-    let digits = input.len() - 1;
-    if DAY_DIGITS < digits {
-        return NumberAnswer::refused(refusal::BAD_INPUT);
-    }
-    if input[digits] != b'\n' {
-        return NumberAnswer::refused(refusal::BAD_INPUT);
-    }
-    read_decimal(&input[..digits])
 }
 
 // The day's number in such an input.
-pub fn read_day(input: &[u8]) -> NumberAnswer
+#[tactic(auto, unfolding(crate::specs::Inputs::day_input))]
+pub fn read_day(input: &[u8]) -> Result<u32, Refusal>
     ensures { result ≡ day_input input.now }
 {
-    let read = read_line(input);
-    if read.refusal != refusal::NONE {
-        return read;
+    let number = read_line(input)?;
+    if number <= Day::LAST {
+        Ok(number)
+    } else {
+        Err(Refusal::OutOfRange)
     }
-    if Day::LAST < read.number {
-        return NumberAnswer::OUT_OF_RANGE;
-    }
-    NumberAnswer::accepted(read.number)
-}
-
-fn at_most(n: usize, most: usize) -> usize
-    ensures { result ≡ min n most }
-{
-    if n < most { n } else { most }
 }
 
 // The digits are found from the last, so they are written backwards.
@@ -138,13 +117,11 @@ impl Line {
     {
         let mut bytes = self.bytes;
         let mut len = self.len;
-        let mut i = 0;
-        while i < s.len() {
+        for &b in s {
             if len < Line::CAPACITY {
-                bytes[len] = s[i];
+                bytes[len] = b;
                 len += 1;
             }
-            i += 1;
         }
         Line { bytes, len }
     }
@@ -156,7 +133,7 @@ impl Line {
         if self.len < Line::CAPACITY {
             return self.byte(b'\n');
         }
-        refusal_line(refusal::LIST_TOO_SHORT)
+        refusal_line(Refusal::ListTooShort.number())
     }
 
     // Puts the line's contents into a buffer from byte `at` on, where all of them fit, and says whether they do.
@@ -165,18 +142,14 @@ impl Line {
         ensures buffer_after { buffer.new ≡ put_at buffer.old at (contents self) }
     {
         let bytes = self.bytes;
-        let len = at_most(self.len, Line::CAPACITY);
+        let len = self.len.min(Line::CAPACITY);
         if buffer.len() < at {
             return false;
         }
         if buffer.len() - at < len {
             return false;
         }
-        let mut i = 0;
-        while i < len {
-            buffer[at + i] = bytes[i];
-            i += 1;
-        }
+        buffer[at..at + len].copy_from_slice(&bytes[..len]);
         true
     }
 
@@ -201,10 +174,8 @@ impl Line {
         ensures { result ≡ with_bytes self (spaced numbers.now) }
     {
         let mut made = self;
-        let mut i = 0;
-        while i < numbers.len() {
-            made = made.byte(b' ').number(numbers[i]);
-            i += 1;
+        for &number in numbers {
+            made = made.byte(b' ').number(number);
         }
         made
     }

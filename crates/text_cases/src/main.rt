@@ -1,22 +1,15 @@
 // Numbers printed, lines read as numbers and a line that is too long: the output is held to the file stdout.
 #![tactic(auto)]
 
-ghost use Rattle.std.specs.Prelude.{◌≤◌, length};
-
+use days::refusal;
 use text::Line;
 
 const STDOUT_FILENO: i32 = 1;
 
-fn write_first(bytes: &[u8; Line::CAPACITY], len: usize) {
-    let all: &[u8] = bytes;
-    if len <= all.len() {
-        io::write_all(STDOUT_FILENO, &all[..len]);
-    }
-}
-
 fn write(line: Line) {
-    let bytes = line.bytes;
-    write_first(&bytes, line.len);
+    if let Some(shown) = line.bytes.get(..line.len) {
+        io::write_all(STDOUT_FILENO, shown);
+    }
 }
 
 fn print_number(n: u32) {
@@ -42,31 +35,18 @@ fn print_reading(line: &[u8]) {
         .byte(b'[')
         .text(line)
         .text(b"] refusal ")
-        .number(read.refusal);
-    write(shown.text(b" number ").number(read.number).byte(b'\n'));
-}
-
-// Where the line that starts at from ends: at the next newline, or where the input ends.
-fn line_end(input: &[u8], from: usize) -> usize
-    requires { from ≤ length input.now }
-    ensures { (from ≤ result) × (result ≤ length input.now) }
-{
-    let mut end = from;
-    while end < input.len() {
-        if input[end] == b'\n' {
-            return end;
-        }
-        end += 1;
-    }
-    end
+        .number(refusal::result_number(read));
+    write(
+        shown
+            .text(b" number ")
+            .number(read.unwrap_or(0))
+            .byte(b'\n'),
+    );
 }
 
 fn print_readings(input: &[u8]) {
-    let mut from = 0;
-    while from < input.len() {
-        let end = line_end(input, from);
-        print_reading(&input[from..end]);
-        from = end + 1;
+    for line in input.split_inclusive(|&b| b == b'\n') {
+        print_reading(line.strip_suffix(b"\n").unwrap_or(line));
     }
 }
 

@@ -1,11 +1,11 @@
 -- What the values of a line mean: each is a word, in one case two, read as a number, or the refusal of a bad line; and
 -- the weekdays or the elements of a line, as a set.
 -- Assumes nothing.
-use Rattle.std.specs.Prelude.{Bool, true, false, cond, ◌&&◌, List, ℕ, zero, suc, ◌+◌, ◌*◌, ◌-◌, eqb, leb, ltb, length}
+use Rattle.std.specs.Prelude.{Bool, true, false, cond, ◌&&◌, List, ℕ, zero, suc, ◌+◌, ◌*◌, ◌-◌, eqb, leb, ltb, length, Result, Ok, Err, is_ok}
+use Rattle.std.specs.Result.{result_or}
 use Rattle.civil.specs.Answers.{day_of_date}
-use Rattle.days.specs.declared.NumberAnswer.{NumberAnswer}
-use Rattle.days.specs.Refusals.{accepted, bad_input}
-use Rattle.days.specs.Days.{the_number, no_number}
+use Rattle.days.specs.declared.refusal.Refusal.{Refusal}
+use Rattle.days.specs.declared.refusal.Refusal.TheVariants.{BadInput}
 use Rattle.days.specs.Weekdays.{bit_of, in_set}
 use Rattle.names.specs.declared.Kind.{Kind}
 use Rattle.names.specs.declared.Kind.TheVariants.{Tithi, Nakshatra, Yoga, Karana, Sign, Month, Fortnight, Weekday}
@@ -17,59 +17,61 @@ use Rattle.values.specs.declared.Value.{Value}
 use Rattle.words.specs.Words.{dash, colon, up_to, after_first, first_word, after_word, after_words}
 
 -- the word is a number
-abbrev pub is_read : NumberAnswer → Bool
-is_read r = eqb r.refusal accepted
+abbrev pub is_read : Result ℕ Refusal → Bool
+is_read r = is_ok r
+
+-- what is made of an answer, where it is no refusal
+abbrev pub and_then : {A B : Type 0} → Result A Refusal → (A → Result B Refusal) → Result B Refusal
+and_then (Ok a) f = f a
+and_then (Err r) f = Err r
 
 -- three numbers with a separator between them
-abbrev pub three_numbers : NumberAnswer → NumberAnswer → NumberAnswer → Three
+abbrev pub three_numbers : Result ℕ Refusal → Result ℕ Refusal → Result ℕ Refusal → Result Three Refusal
 three_numbers a b c =
-    cond (is_read a && (is_read b && is_read c))
-    (record { read = true; first = a.number; second = b.number; third = c.number })
-    (record { read = false; first = 0; second = 0; third = 0 })
+    and_then a (λ x. and_then b (λ y. and_then c (λ z. Ok (record { first = x; second = y; third = z }))))
 
-unfoldable pub three_read : ℕ → List ℕ → Three
+unfoldable pub three_read : ℕ → List ℕ → Result Three Refusal
 three_read s w =
     three_numbers (number_read (up_to s w)) (number_read (up_to s (after_first s w))) (number_read (after_first s (after_first s w)))
 
 -- two numbers with a separator between them, and 0 for a third
-unfoldable pub two_read : ℕ → List ℕ → Three
-two_read s w = three_numbers (number_read (up_to s w)) (number_read (after_first s w)) (the_number 0)
+unfoldable pub two_read : ℕ → List ℕ → Result Three Refusal
+two_read s w = three_numbers (number_read (up_to s w)) (number_read (after_first s w)) (Ok 0)
 
 -- the degrees, minutes and seconds of `D:M:S`, or of `D:M`
-unfoldable pub degrees_read : List ℕ → Three
-degrees_read w = cond (three_read colon w).read (three_read colon w) (two_read colon w)
+unfoldable pub degrees_read : List ℕ → Result Three Refusal
+degrees_read w = result_or (three_read colon w) (two_read colon w)
 
 -- `D:M:S`, in seconds of arc: D below 1000, M and S below 60
-unfoldable pub sexagesimal_read : Three → NumberAnswer
+unfoldable pub sexagesimal_read : Three → Result ℕ Refusal
 sexagesimal_read t =
-    cond (t.read && (ltb t.first 1000 && (ltb t.second 60 && ltb t.third 60)))
-    (the_number (3600 * t.first + 60 * t.second + t.third))
-    (no_number bad_input)
+    cond (ltb t.first 1000 && (ltb t.second 60 && ltb t.third 60))
+    (Ok (3600 * t.first + 60 * t.second + t.third))
+    (Err BadInput)
 
 -- a number, or what else the word may be
-unfoldable pub number_or : List ℕ → NumberAnswer → NumberAnswer
-number_or w other = cond (is_read (number_read w)) (number_read w) other
+unfoldable pub number_or : List ℕ → Result ℕ Refusal → Result ℕ Refusal
+number_or w other = result_or (number_read w) other
 
 -- an angle: whole seconds of arc, `D:M:S` or `D:M`
-unfoldable pub angle_read : List ℕ → NumberAnswer
-angle_read w = number_or w (sexagesimal_read (degrees_read w))
+unfoldable pub angle_read : List ℕ → Result ℕ Refusal
+angle_read w = number_or w (and_then (degrees_read w) sexagesimal_read)
 
 -- `YEAR-MONTH-DAY`: the day of that date
-unfoldable pub date_read : Three → NumberAnswer
-date_read t =
-    cond t.read (day_of_date (record { year = t.first; month = t.second; day = t.third })) (no_number bad_input)
+unfoldable pub date_read : Three → Result ℕ Refusal
+date_read t = day_of_date (record { year = t.first; month = t.second; day = t.third })
 
 -- a day of the span: its number, or its civil date
-unfoldable pub day_read : List ℕ → NumberAnswer
-day_read w = number_or w (date_read (three_read dash w))
+unfoldable pub day_read : List ℕ → Result ℕ Refusal
+day_read w = number_or w (and_then (three_read dash w) date_read)
 
 -- tithis elapsed while the nth tithi of a half of the month runs, 1 to 15; any other n has a number that is no tithi's
 unfoldable pub elapsed_in : ℕ → ℕ → ℕ
 elapsed_in half n = cond (leb 1 n && leb n 15) (15 * half + (n - 1)) 31
 
 -- a tithi by the half of its month, 0 or 1, and its number in it
-unfoldable pub half_read : ℕ → NumberAnswer → NumberAnswer
-half_read half n = cond (is_read n) (the_number (elapsed_in half n.number)) (no_number bad_input)
+unfoldable pub half_read : ℕ → Result ℕ Refusal → Result ℕ Refusal
+half_read half n = and_then n (λ k. Ok (elapsed_in half k))
 
 -- a kind whose values may be two words, and the kind that has a set of its own
 abbrev pub is_tithi : Kind → Bool
@@ -93,54 +95,51 @@ is_weekday Fortnight = false
 is_weekday Weekday = true
 
 -- the half of the month that a word names, where a tithi is asked for
-unfoldable pub half_named : Kind → List ℕ → NumberAnswer
-half_named k w = cond (is_tithi k) (name_read Fortnight w) (no_number bad_input)
+unfoldable pub half_named : Kind → List ℕ → Result ℕ Refusal
+half_named k w = cond (is_tithi k) (name_read Fortnight w) (Err BadInput)
 
 -- a value by name at the front of a text: one word; or of a tithi the name of a half of the month and a number,
 -- `shukla 5`
 unfoldable pub name_value : Kind → List ℕ → Value
 name_value k t =
-    cond (is_read (half_named k (first_word t)))
-    (record { words = 2; read = half_read (half_named k (first_word t)).number (number_read (first_word (after_word t))) })
-    (record { words = 1; read = name_read k (first_word t) })
+    elim (half_named k (first_word t)) [
+      | Ok half ↦ record { words = 2; read = half_read half (number_read (first_word (after_word t))) }
+      | Err _ ↦ record { words = 1; read = name_read k (first_word t) }
+    ]
 
 -- the value at the front of a text, an element or a weekday: its number, or else its name
 unfoldable pub value_read : Kind → List ℕ → Value
 value_read k t =
     cond (is_read (number_read (first_word t))) (record { words = 1; read = number_read (first_word t) }) (name_value k t)
 
--- a set with a weekday more; one that is in it already, or is not read, makes the line malformed
-unfoldable pub with_weekday : ℕ → NumberAnswer → NumberAnswer
-with_weekday set w =
-    cond (is_read w) (cond (in_set set w.number) (no_number bad_input) (the_number (set + bit_of w.number))) (no_number bad_input)
+-- a set with a weekday more; one that is in it already makes the line malformed
+unfoldable pub with_weekday : ℕ → ℕ → Result ℕ Refusal
+with_weekday set w = cond (in_set set w) (Err BadInput) (Ok (set + bit_of w))
 
 -- a query's set has a number; from 31 on it does not tell one from another, and those are out of range in any case
 unfoldable pub in_numbers : ℕ → ℕ → Bool
 in_numbers set n = leb n 30 && has_number set n
 
--- a query's set with a number more; one that is in it already, or is not read, makes the line malformed
-unfoldable pub with_number_read : ℕ → NumberAnswer → NumberAnswer
+-- a query's set with a number more; one that is in it already makes the line malformed
+unfoldable pub with_number_read : ℕ → ℕ → Result ℕ Refusal
 with_number_read set n =
-    cond (is_read n)
-    (cond (in_numbers set n.number) (no_number bad_input) (the_number (with_number (record { given = true; set = set }) n.number).set))
-    (no_number bad_input)
+    cond (in_numbers set n) (Err BadInput) (Ok (with_number (record { given = true; set = set }) n).set)
 
 -- a set with a value more, a weekday or a number
-unfoldable pub with_value : Kind → ℕ → NumberAnswer → NumberAnswer
+unfoldable pub with_value : Kind → ℕ → ℕ → Result ℕ Refusal
 with_value k set n = cond (is_weekday k) (with_weekday set n) (with_number_read set n)
 
 -- a set; there is none without a word
-unfoldable pub set_read : ℕ → NumberAnswer
-set_read set = cond (eqb set 0) (no_number bad_input) (the_number set)
+unfoldable pub set_read : ℕ → Result ℕ Refusal
+set_read set = cond (eqb set 0) (Err BadInput) (Ok set)
 
 -- a set with a text's values, in any order: at most n, and each weekday or number once
-unfoldable pub set_of : Kind → ℕ → ℕ → List ℕ → NumberAnswer
-set_of k zero set t = cond (eqb (length (first_word t)) 0) (set_read set) (no_number bad_input)
+unfoldable pub set_of : Kind → ℕ → ℕ → List ℕ → Result ℕ Refusal
+set_of k zero set t = cond (eqb (length (first_word t)) 0) (set_read set) (Err BadInput)
 set_of k (suc n) set t =
     cond (eqb (length (first_word t)) 0) (set_read set)
     (let v = value_read k t in
-    let more = with_value k set v.read in
-    cond (is_read more) (set_of k n more.number (after_words v.words t)) more)
+    and_then (and_then v.read (with_value k set)) (λ more. set_of k n more (after_words v.words t)))
 
 -- the most weekdays of a line, and the most of its elements
 abbrev pub most_weekdays : ℕ
@@ -153,9 +152,9 @@ abbrev pub most_of : Kind → ℕ
 most_of k = cond (is_weekday k) most_weekdays most_numbers
 
 -- THE SET of a line's weekdays or elements
-abbrev pub named_set_read : Kind → List ℕ → NumberAnswer
+abbrev pub named_set_read : Kind → List ℕ → Result ℕ Refusal
 named_set_read k t = set_of k (most_of k) 0 t
 
 -- no word at all
-unfoldable pub none_read : List ℕ → NumberAnswer
-none_read w = cond (eqb (length w) 0) (the_number 0) (no_number bad_input)
+unfoldable pub none_read : List ℕ → Result ℕ Refusal
+none_read w = cond (eqb (length w) 0) (Ok 0) (Err BadInput)

@@ -21,7 +21,7 @@ fn say_remarks(input: &[u8]) {
 fn print_all(input: &[u8], bytes: &[u8])
     requires { bytes.now ≡ printed_for input.now }
 {
-    output::print_bytes(bytes);
+    let _ = output::print_bytes(bytes);
 }
 
 fn reply_to(input: &[u8]) {
@@ -37,6 +37,5 @@ fn reply_to(input: &[u8]) {
 fn main(rt: HostRuntime) {
     let mut stdin = rt.stdin();
     let mut buffer = [0u8; text::TOO_LONG];
-    let n = input::read_input(&mut stdin, &mut buffer);
-    reply_to(&buffer[..n]);
+    reply_to(input::read_bytes(&mut stdin, &mut buffer));
 }

@@ -2,13 +2,17 @@
 -- byte.
 -- Assumes nothing.
 use mathlib.Core.Path.{◌≡◌, refl, ap, sym, ◌∙◌}
-use mathlib.Core.Bool.{Bool, true, false}
+use mathlib.Core.Bool.{Bool, true, false, cond, not}
 use mathlib.Core.List.{List, [], ◌∷◌}
-use Prim.Native.Nat.{ℕ, suc, ◌+◌, ◌≤◌, ◌<◌}
+use Prim.Native.Nat.{ℕ, suc, ◌+◌, ◌≤◌}
 use native.Mathlib.Omega.{arith}
-use native.Mathlib.Numerals.{add-one}
-use lib.ListN.{length, get_or, drop, drop_of_length-le}
-use lib.Seq.{drop-cons}
+use native.Mathlib.Numerals.{one-add}
+use lib.Dec.{ltb}
+use lib.ListN.{length, drop, drop_of_length-le}
+use Rattle.std.specs.Prelude.{Option, Some, None}
+use Rattle.std.specs.List.{position_or_len}
+use Rattle.std.specs.Option.{unwrap_or}
+use borrow.Author.Tests.{ltb-false}
 use Rattle.words.specs.Words.{in_run, run_length, after_first}
 
 pub run_on : (t : Bool) (s b : ℕ) (bs : List ℕ) → in_run t s b ≡ true → run_length t s (b ∷ bs) ≡ suc (run_length t s bs)
@@ -31,25 +35,25 @@ run-le t s (b ∷ bs) = go (in_run t s b) refl (run-le t s bs)
     go true e le = omega (arith, run_on t s b bs e)
     go false e le = omega (arith, run-stops t s b bs e)
 
--- before the byte at i: the bytes passed belong to the run
-abbrev pub Running : Bool → ℕ → List ℕ → ℕ → Type 0
-Running t s bs i = i + run_length t s (drop i bs) ≡ run_length t s bs
+-- the run ends at the first byte that does not belong to it
+position-run : (t : Bool) (s : ℕ) (bs : List ℕ) → position_or_len (λ b. not (in_run t s b)) bs ≡ run_length t s bs
+unfolding run_length
+position-run t s [] = refl
+position-run t s (b ∷ bs) = go (in_run t s b) refl (position-run t s bs)
+  where
+    go : (u : Bool) → in_run t s b ≡ u → position_or_len (λ b. not (in_run t s b)) bs ≡ run_length t s bs → position_or_len (λ b. not (in_run t s b)) (b ∷ bs) ≡ run_length t s (b ∷ bs)
+    go true e ih = rw (e, one-add) (ap suc ih)
+    go false e ih = rw e
 
-module _ (t : Bool) (s : ℕ) (bs : List ℕ) (i : ℕ) (r : Running t s bs i) where
-  pub running-on : i < length bs → in_run t s (get_or bs i 0) ≡ true → Running t s bs (i + 1)
-  running-on more e =
-      let step = ap (run_length t s) (drop-cons bs i 0 more) ∙ run_on t s (get_or bs i 0) (drop (suc i) bs) e in
-      rw add-one (omega arith)
-
-  pub running-stops : i < length bs → in_run t s (get_or bs i 0) ≡ false → i ≡ run_length t s bs
-  running-stops more e =
-      let stop = ap (run_length t s) (drop-cons bs i 0 more) ∙ run-stops t s (get_or bs i 0) (drop (suc i) bs) e in
-      omega arith
-
-  pub running-end : length bs ≤ i → i ≡ run_length t s bs
-  running-end end =
-      let stop = ap (run_length t s) (drop_of_length-le bs {i = i} end) ∙ run_none t s in
-      omega arith
+pub run-found :
+    (t : Bool) (s : ℕ) (bs : List ℕ) (o : Option ℕ) →
+    o ≡ cond (ltb (position_or_len (λ b. not (in_run t s b)) bs) (length bs)) (Some (position_or_len (λ b. not (in_run t s b)) bs)) None →
+    unwrap_or o (length bs) ≡ run_length t s bs
+run-found t s bs o e = go (ltb (run_length t s bs) (length bs)) refl (rw (position-run t s bs) at e)
+  where
+    go : (u : Bool) → ltb (run_length t s bs) (length bs) ≡ u → o ≡ cond u (Some (run_length t s bs)) None → unwrap_or o (length bs) ≡ run_length t s bs
+    go true l e = rw e
+    go false l e = rw e (omega (arith, run-le t s bs, ltb-false (run_length t s bs) (length bs) l))
 
 -- where the run ends before the list, a separator follows it
 pub separator-within : (t : Bool) (s : ℕ) (bs : List ℕ) (n : ℕ) → n ≡ run_length t s bs → (n ≡ length bs → ⊥) → n + 1 ≤ length bs

@@ -14,46 +14,26 @@ pub const TRUE_NAMES: [u8; 77] =
     *b"true_sun true_moon true_mars true_mercury true_jupiter true_venus true_saturn";
 
 // Where the separator is a space, a tab, a carriage return and a comma separate too.
+#[tactic(auto, unfolding(crate::specs::Words::is_separator))]
 fn separates(separator: u8, b: u8) -> bool
     ensures { result ≡ is_separator separator b }
 {
-    if b == separator {
-        return true;
-    }
-    if separator != b' ' {
-        return false;
-    }
-    if b == b'\t' {
-        return true;
-    }
-    if b == b'\r' {
-        return true;
-    }
-    b == b','
+    b == separator || separator == b' ' && (b == b'\t' || b == b'\r' || b == b',')
 }
 
 fn belongs(separators: bool, separator: u8, b: u8) -> bool
     ensures { result ≡ in_run separators separator b }
 {
-    if separators {
-        separates(separator, b)
-    } else {
-        !separates(separator, b)
-    }
+    separates(separator, b) == separators
 }
 
 // How many bytes at the front are separators, or are none.
 pub fn run_length(s: &[u8], separator: u8, separators: bool) -> usize
     ensures { result ≡ run_length separators separator s.now }
 {
-    let mut i = 0;
-    while i < s.len() {
-        if !belongs(separators, separator, s[i]) {
-            return i;
-        }
-        i += 1;
-    }
-    i
+    s.iter()
+        .position(|&b| !belongs(separators, separator, b))
+        .unwrap_or(s.len())
 }
 
 // The bytes before the first separator.
@@ -80,19 +60,7 @@ pub fn after(s: &[u8], separator: u8) -> &[u8]
 pub fn unmarked(text: &[u8]) -> &[u8]
     ensures { result.now ≡ unmarked text.now }
 {
-    if text.len() < 3 {
-        return text;
-    }
-    if text[0] != 239 {
-        return text;
-    }
-    if text[1] != 187 {
-        return text;
-    }
-    if text[2] != 191 {
-        return text;
-    }
-    &text[3..]
+    text.strip_prefix(&[239, 187, 191]).unwrap_or(text)
 }
 
 fn trim(s: &[u8]) -> &[u8]
@@ -120,55 +88,33 @@ pub fn after_word(s: &[u8]) -> &[u8]
 pub fn after_words(s: &[u8], count: usize) -> &[u8]
     ensures { result.now ≡ after_words count s.now }
 {
-    let mut more = count;
     let mut rest = s;
-    while 0 < more {
-        let others = after_word(rest);
-        rest = others;
-        more -= 1;
+    for _ in 0..count {
+        rest = after_word(rest);
     }
     rest
 }
 
 // Whether the byte behind this one is the last of a letter with a mark, but for ñ.
+#[tactic(auto, unfolding(crate::specs::Words::behind_mark))]
 fn behind_mark(before: u8) -> bool
     ensures { result ≡ behind_mark before }
 {
-    if before == 184 {
-        return true;
-    }
-    if before == 185 {
-        return true;
-    }
-    if before == 196 {
-        return true;
-    }
-    before == 197
+    matches!(before, 184 | 185 | 196 | 197)
 }
 
 // A byte in small letters, by the byte before it.
+#[tactic(auto, unfolding(crate::specs::Words::small_byte))]
 fn small_byte(before: u8, b: u8) -> u8
     ensures { result ≡ small_byte before b }
 {
-    if b < b'A' {
-        return b;
+    match b {
+        b'A'..=b'Z' => b + 32,
+        0..128 => b,
+        128..160 if before == 195 => b + 32,
+        _ if behind_mark(before) && b % 2 == 0 => b + 1,
+        _ => b,
     }
-    if b <= b'Z' {
-        return b + 32;
-    }
-    if b < 128 {
-        return b;
-    }
-    if before == 195 {
-        if b < 160 {
-            return b + 32;
-        }
-        return b;
-    }
-    if !behind_mark(before) {
-        return b;
-    }
-    if b % 2 == 0 { b + 1 } else { b }
 }
 
 // Whether a word is a name, which is in small letters, in any letter case.
@@ -179,14 +125,12 @@ fn is_name(name: &[u8], word: &[u8]) -> bool
         return false;
     }
     let mut before: u8 = 0;
-    let mut i: usize = 0;
-    while i < name.len() {
+    for i in 0..name.len() {
         let b = word[i];
         if name[i] != small_byte(before, b) {
             return false;
         }
         before = b;
-        i += 1;
     }
     true
 }
@@ -215,12 +159,9 @@ pub fn place_in(names: &[u8], word: &[u8]) -> usize
 pub fn name_at(names: &[u8], place: usize) -> &[u8]
     ensures { result.now ≡ name_at (pieces space names.now) place }
 {
-    let mut left = place;
     let mut rest = names;
-    while 0 < left {
-        let others = after(rest, b' ');
-        rest = others;
-        left -= 1;
+    for _ in 0..place {
+        rest = after(rest, b' ');
     }
     up_to(rest, b' ')
 }

@@ -1,12 +1,15 @@
 -- The cases that paper 01 marks with a star ("Days on both sides"), in its order. Each has what the meanings give and,
 -- in the same order, what the paper says.
 -- Assumes nothing.
-use Rattle.std.specs.Prelude.{true, false, List, [], ◌∷◌, ◌++◌, ℕ, ◌-◌, length, replicate}
+use Rattle.std.specs.Prelude.{true, false, List, [], ◌∷◌, ◌++◌, ℕ, ◌-◌, length, replicate, Result, Ok, Err}
 use Rattle.days.specs.Days.{weekday_on, pair_at, day_of}
-use Rattle.days.specs.declared.NumberAnswer.{NumberAnswer}
+use Rattle.days.specs.declared.Day.{Day}
+use Rattle.days.specs.declared.refusal.Refusal.{Refusal}
+use Rattle.days.specs.Refusals.{result_number, number_or_zero, part_or_zero}
 use Rattle.civil.specs.Answers.{day_of_date}
 use Rattle.saka.specs.LunarDays.{lunar_day}
 use Rattle.longitudes.specs.Longitudes.{longitude_at}
+use Rattle.longitudes.specs.declared.MeanLongitudes.{MeanLongitudes}
 use Rattle.longitudes.specs.Answers.{longitudes_of}
 use Rattle.panchanga.specs.declared.Panchanga.{Panchanga}
 use Rattle.panchanga.specs.TrueLongitudes.{first_edition}
@@ -23,28 +26,34 @@ pub record Case : Type 0 where
   pub said : List ℕ
 
 -- an answer: the refusal's number or 0, then the value
-abbrev pub answer : NumberAnswer → List ℕ
-answer a = a.refusal ∷ a.number ∷ []
+abbrev pub answer : Result ℕ Refusal → List ℕ
+answer a = result_number a ∷ number_or_zero a ∷ []
 
 -- the day of a civil date
-abbrev pub date : ℕ → ℕ → ℕ → NumberAnswer
+abbrev pub date : ℕ → ℕ → ℕ → Result ℕ Refusal
 date y m d = day_of_date (record { year = y; month = m; day = d })
 
 -- its pair: the refusal's number or 0, the cycle, the day within it
-abbrev pub pair : NumberAnswer → List ℕ
-pair a = let d = (day_of a.number).day in a.refusal ∷ d.cycle ∷ d.within ∷ []
+abbrev pub pair : Result ℕ Refusal → List ℕ
+pair a = let d = day_of (number_or_zero a) in result_number a ∷ part_or_zero (λ (e : Day). e.cycle) d ∷ part_or_zero (λ (e : Day). e.within) d ∷ []
 
 -- its weekday, 0 Monday to 6 Sunday
-abbrev pub weekday : NumberAnswer → ℕ
-weekday a = weekday_on a.number
+abbrev pub weekday : Result ℕ Refusal → ℕ
+weekday a = weekday_on (number_or_zero a)
 
 -- the day of a Saka lunar date, paper 02's mark not set
 abbrev pub saka : ℕ → ℕ → ℕ → ℕ → List ℕ
 saka year months tithis w = answer (lunar_day (record { year = year; months = months; tithis = tithis; weekday = w; leap_month_pending = false }))
 
 -- true Sun, true Moon, tithi, nakshatra, yoga, karana
-abbrev pub elements : Panchanga → List ℕ
-elements p = p.sun ∷ p.moon ∷ p.tithi ∷ p.nakshatra ∷ p.yoga ∷ p.karana ∷ []
+abbrev pub elements : Result Panchanga Refusal → List ℕ
+elements (Ok p) = p.sun ∷ p.moon ∷ p.tithi ∷ p.nakshatra ∷ p.yoga ∷ p.karana ∷ []
+elements (Err refusal) = []
+
+-- the nine mean longitudes
+abbrev pub nine : Result MeanLongitudes Refusal → List ℕ
+nine (Ok found) = found.longitudes
+nine (Err refusal) = []
 
 -- days 0 to 729, Sun's arc from 0, width 3600
 abbrev pub two_years : Query
@@ -71,7 +80,7 @@ starred =
     -- 19 March 1520: day 0
     record { found = answer (date 1520 3 19); said = 0 ∷ 0 ∷ [] }
     -- places of K
-    ∷ record { found = (longitudes_of (pair_at 0)).longitudes; said = 1258860 ∷ 1256760 ∷ 603180 ∷ 99480 ∷ 1105680 ∷ 970380 ∷ 764160 ∷ 828540 ∷ 1027260 ∷ [] }
+    ∷ record { found = nine (longitudes_of (pair_at 0)); said = 1258860 ∷ 1256760 ∷ 603180 ∷ 99480 ∷ 1105680 ∷ 970380 ∷ 764160 ∷ 828540 ∷ 1027260 ∷ [] }
     -- true Sun 1266701, true Moon 1257257, tithi 29, nakshatra 26, yoga 25, karana 10
     ∷ record { found = elements (panchanga_of first_edition (pair_at 0)); said = 1266701 ∷ 1257257 ∷ 29 ∷ 26 ∷ 25 ∷ 10 ∷ [] }
     -- 18 March 1520: 2 (in the same line of the paper, without a star of its own)

@@ -1,137 +1,97 @@
 -- What is answered, case by case: the sign of a day; of a span refused, too many entries, all written.
 -- Assumes nothing.
-use mathlib.Core.Path.{◌≡◌, refl, sym, ap, ap₂, ◌∙◌}
-use mathlib.Core.Bool.{Bool, true, false, cond, ◌&&◌}
+use mathlib.Core.Path.{◌≡◌, sym, ap, ap₂, ◌∙◌}
 use mathlib.Core.List.{List}
 use Prim.Native.Nat.{ℕ, ◌+◌, ◌/◌, ◌≤◌, ◌<◌}
 use native.Mathlib.Omega.{arith}
-use lib.Dec.{leb, eqb}
 use lib.ListN.{length}
-use borrow.Author.Tests.{le-leb, lt-leb, eq-eqb, ne_eqb}
+use borrow.Author.Tests.{le-leb, lt-leb}
+use Rattle.std.specs.Prelude.{Result, Ok, Err}
 use Rattle.days.specs.declared.Day.{Day}
-use Rattle.days.specs.declared.NumberAnswer.{NumberAnswer}
-use Rattle.days.specs.Days.{last_day, the_number, no_number, in_range, on_day, span_refusal}
-use Rattle.days.proofs.Laws.{given, refused, span-accepted, span-refused, span-given}
+use Rattle.days.specs.declared.refusal.Refusal.{Refusal}
+use Rattle.days.specs.Days.{answer_on, check_span}
+use Rattle.days.proofs.Laws.{given, told, refused-too, checked, over-span, over-refused}
+use Rattle.entries.specs.declared.NotPut.{NotPut}
+use Rattle.entries.specs.declared.NotPut.TheVariants.{Refused, TooShort}
 use Rattle.entries.specs.Entries.{capacity, with_entries, with_entries_from}
+use Rattle.entries.specs.Told.{put_number}
 use Rattle.entries.proofs.Putting.{put_all}
+use Rattle.entries.proofs.Told.{not-put, put-short, put-done, put-all, would-do, refused-so, span-number, behind-refused, behind-checked}
 use Rattle.longitudes.specs.declared.Body.TheVariants.{Sun as TheSun}
 use Rattle.longitudes.specs.declared.MeanLongitude.{MeanLongitude}
-use Rattle.longitudes.specs.Answers.{longitude_of}
-use Rattle.longitudes.proofs.Answers.{longitude-given, longitude-refused}
-use Rattle.panchanga.specs.OnDays.{true_sun_of}
-use Rattle.zodiac.specs.declared.Listing.{Listing}
+use Rattle.longitudes.specs.Answers.{the_longitude, longitude_of}
 use Rattle.zodiac.specs.declared.Sun.{Sun}
-use Rattle.zodiac.specs.declared.Sun.TheVariants.{Mean, True}
+use Rattle.zodiac.specs.declared.Sun.TheVariants.{Mean}
 use Rattle.zodiac.specs.Zodiac.{sun_at, sign_at, sign_of, sign_entries, length_needed, entries_result, listing_of, entries_after}
 use Rattle.zodiac.specs.Passed.{signs_passed, days_passing}
 use Rattle.zodiac.proofs.Entering.{by_sign, entries-count}
 
--- the mean Sun of a day, and the true one
-pub mean-sun : (d : Day) (mean : MeanLongitude) → mean ≡ longitude_of TheSun d → record { refusal = mean.refusal; number = mean.seconds } ≡ on_day (sun_at Mean) d
-unfolding sun_at
-mean-sun d mean e = go (in_range d) refl
-  where
-    answer : MeanLongitude → NumberAnswer
-    answer m = record { refusal = m.refusal; number = m.seconds }
+-- the mean Sun of a day
+pub mean-sun : (d : Day) {mean : MeanLongitude} → Ok mean ≡ longitude_of TheSun d → Ok mean.seconds ≡ answer_on (sun_at Mean) d
+unfolding sun_at longitude_of
+mean-sun d e = let t = told (the_longitude 0) d e in rw (t.value, given (sun_at Mean) d t.range)
 
-    go : (b : Bool) → in_range d ≡ b → answer mean ≡ on_day (sun_at Mean) d
-    go true r = ap answer (e ∙ longitude-given TheSun d r) ∙ sym (given (sun_at Mean) d r)
-    go false r = ap answer (e ∙ longitude-refused TheSun d r) ∙ sym (refused (sun_at Mean) d r)
-
-pub true-sun : (d : Day) (answer : NumberAnswer) → answer ≡ true_sun_of d → answer ≡ on_day (sun_at True) d
-unfolding sun_at
-true-sun d answer e = e
+pub no-mean-sun : (d : Day) {r : Refusal} → Err r ≡ longitude_of TheSun d → Err r ≡ answer_on (sun_at Mean) d
+unfolding longitude_of
+no-mean-sun d e = refused-too (the_longitude 0) (sun_at Mean) d e
 
 -- the sign of a day, from where the Sun stands
-module _ (sun : Sun) (d : Day) (found : NumberAnswer) (e : found ≡ on_day (sun_at sun) d) where
-  pub sign-refused : (found.refusal ≡ 0 → ⊥) → no_number found.refusal ≡ sign_of sun d
-  sign-refused h = go (in_range d) refl
-    where
-      go : (b : Bool) → in_range d ≡ b → no_number found.refusal ≡ sign_of sun d
-      go true r = absurd (h (ap (λ (a : NumberAnswer). a.refusal) (e ∙ given (sun_at sun) d r)))
-      go false r = ap (λ (a : NumberAnswer). no_number a.refusal) (e ∙ refused (sun_at sun) d r) ∙ sym (refused (sign_at sun) d r)
-
-  pub sign-given : found.refusal ≡ 0 → the_number (found.number / 108000) ≡ sign_of sun d
-  sign-given h = go (in_range d) refl
-    where
-      go : (b : Bool) → in_range d ≡ b → the_number (found.number / 108000) ≡ sign_of sun d
-      go true r = ap (λ (a : NumberAnswer). the_number (a.number / 108000)) (e ∙ given (sun_at sun) d r) ∙ sym (given (sign_at sun) d r)
-      go false r = absurd (omega (arith, h, ap (λ (a : NumberAnswer). a.refusal) (e ∙ refused (sun_at sun) d r)))
+pub sign-given : (sun : Sun) (d : Day) {found : ℕ} → Ok found ≡ answer_on (sun_at sun) d → Ok (found / 108000) ≡ sign_of sun d
+sign-given sun d e = let t = told (sun_at sun) d e in rw (t.value, given (sign_at sun) d t.range)
 
 module _ (sun : Sun) (first last : ℕ) where
-  pub length-refused : (span_refusal first last ≡ 0 → ⊥) → length_needed sun first last ≡ no_number (span_refusal first last)
+  pub length-refused : {r : Refusal} → Err r ≡ check_span first last → Err r ≡ length_needed sun first last
   unfolding length_needed
-  length-refused n = rw (ne_eqb (span_refusal first last) 0 n)
+  length-refused e = over-refused first last (Ok (length (sign_entries sun first last))) e
 
-  pub length-given : span_refusal first last ≡ 0 → length_needed sun first last ≡ the_number (length (sign_entries sun first last))
+  pub length-given : Ok tt ≡ check_span first last → Ok (length (sign_entries sun first last)) ≡ length_needed sun first last
   unfolding length_needed
-  length-given e = rw (eq-eqb (span_refusal first last) 0 e)
+  length-given e = sym (over-span (Ok (length (sign_entries sun first last))) (checked first last e))
 
-  -- the number, by a listing for a list of any length: 7 says that the span is not refused
-  module _ (room : ℕ) (found : Listing) (e : found ≡ listing_of sun first last room) where
-    pub too-short-told : found.refusal ≡ 7 → the_number found.length ≡ length_needed sun first last
-    unfolding listing_of entries_result length_needed span_refusal
-    too-short-told s =
-        ap (λ (f : Listing). the_number f.length) e
-        ∙ go (leb first last_day && leb last last_day) (leb first last) (leb (length (sign_entries sun first last)) room) (ap (λ (f : Listing). f.refusal) (sym e) ∙ s)
-      where
-        needed : ℕ → NumberAnswer
-        needed r = cond (eqb r 0) (the_number (length (sign_entries sun first last))) (no_number r)
+  -- what the listing tells is the result and the length that is needed
+  pub listing-number : (room : ℕ) → put_number (listing_of sun first last room) ≡ entries_result sun first last room
+  unfolding listing_of length_needed entries_result
+  listing-number room = span-number first last (length (sign_entries sun first last)) room
 
-        go : (a o f : Bool) → ◌≡◌ {A = ℕ} (cond a (cond o (cond f 0 7) 5) 2) 7 → the_number (needed (cond a (cond o 0 5) 2)).number ≡ needed (cond a (cond o 0 5) 2)
-        go true true f s = refl
-        go true false f s = absurd (omega arith)
-        go false o f s = absurd (omega arith)
+  -- the number, by a listing for a list of any length: what is needed is put, would do, or is refused
+  module _ (room : ℕ) where
+    pub number-by : {n : ℕ} → Ok n ≡ listing_of sun first last room → Ok n ≡ length_needed sun first last
+    unfolding listing_of
+    number-by e = put-all _ _ e
 
-    pub otherwise-told : (found.refusal ≡ 7 → ⊥) → record { refusal = found.refusal; number = found.length } ≡ length_needed sun first last
-    unfolding listing_of entries_result length_needed span_refusal
-    otherwise-told s =
-        ap (λ (f : Listing). number_of f.refusal f.length) e
-        ∙ go (leb first last_day && leb last last_day) (leb first last) (leb (length (sign_entries sun first last)) room) (λ z. s (ap (λ (f : Listing). f.refusal) e ∙ z))
-      where
-        needed : ℕ → NumberAnswer
-        needed r = cond (eqb r 0) (the_number (length (sign_entries sun first last))) (no_number r)
+    pub number-short : {n : ℕ} → Err (TooShort n) ≡ listing_of sun first last room → Ok n ≡ length_needed sun first last
+    unfolding listing_of
+    number-short e = would-do _ _ e
 
-        number_of : ℕ → ℕ → NumberAnswer
-        number_of r n = record { refusal = r; number = n }
-
-        go : (a o f : Bool) → (◌≡◌ {A = ℕ} (cond a (cond o (cond f 0 7) 5) 2) 7 → ⊥) → number_of (cond a (cond o (cond f 0 7) 5) 2) (needed (cond a (cond o 0 5) 2)).number ≡ needed (cond a (cond o 0 5) 2)
-        go true true true s = refl
-        go true true false s = absurd (s refl)
-        go true false f s = refl
-        go false o f s = refl
+    pub number-refused : {r : Refusal} → Err (Refused r) ≡ listing_of sun first last room → Err r ≡ length_needed sun first last
+    unfolding listing_of
+    number-refused e = refused-so _ _ e
 
   module _ (l : List ℕ) where
     -- what is handed back, and the list after it
-    abbrev pub Answered : Listing → List ℕ → Type 0
+    abbrev pub Answered : Result ℕ NotPut → List ℕ → Type 0
     Answered found after = (found ≡ listing_of sun first last (capacity l)) × (after ≡ entries_after sun first last l)
 
-    pub entries-refused : (r : ℕ) → r ≡ span_refusal first last → (r ≡ 0 → ⊥) → Answered (record { refusal = r; length = 0; examined = 0 }) l
+    pub entries-refused : {r : Refusal} → Err r ≡ check_span first last → Answered (Err (Refused r)) l
     unfolding listing_of entries_after entries_result
-    entries-refused r e h =
-        let n : span_refusal first last ≡ 0 → ⊥ = λ z. h (e ∙ z) in
-        let s = span-refused first last (cond (leb (length (sign_entries sun first last)) (capacity l)) 0 7) n in
-        (rw (s, length-refused n, e), rw (s, ne_eqb (span_refusal first last) 0 n))
+    entries-refused e = (not-put _ _ (length-refused e), rw (behind-refused first last _ e))
 
-    module _ (n : ℕ) (e : span_refusal first last ≡ 0) (c : n ≡ length (sign_entries sun first last)) where
-      pub too_many : capacity l < n → Answered (record { refusal = 7; length = n; examined = 0 }) l
-      unfolding listing_of entries_after entries_result
-      too_many h =
-          let t = lt-leb (length (sign_entries sun first last)) (capacity l) (omega arith) in
-          let g = span-given first last (cond (leb (length (sign_entries sun first last)) (capacity l)) 0 7) e in
-          (rw (g, t, length-given e, c), rw (g, t))
+    module _ (n : ℕ) (e : Ok tt ≡ check_span first last) (c : n ≡ length (sign_entries sun first last)) where
+      needed : Ok n ≡ length_needed sun first last
+      needed = ap Ok c ∙ length-given e
 
-      pub all-written : (m : List ℕ) → n ≤ capacity l → m ≡ with_entries (sign_entries sun first last) l → Answered (record { refusal = 0; length = n; examined = 0 }) m
+      pub too_many : capacity l < n → Answered (Err (TooShort n)) l
       unfolding listing_of entries_after entries_result
-      all-written m h w =
-          let t = le-leb (length (sign_entries sun first last)) (capacity l) (omega arith) in
-          let g = span-given first last (cond (leb (length (sign_entries sun first last)) (capacity l)) 0 7) e in
-          (rw (g, t, length-given e, c), rw (g, t) w)
+      too_many h = (put-short _ _ needed h, rw (behind-checked first last _ e, lt-leb (length (sign_entries sun first last)) (capacity l) (omega arith)))
+
+      pub all-written : (m : List ℕ) → n ≤ capacity l → m ≡ with_entries (sign_entries sun first last) l → Answered (Ok n) m
+      unfolding listing_of entries_after entries_result
+      all-written m h w = (put-done _ _ needed h, rw (behind-checked first last _ e, le-leb (length (sign_entries sun first last)) (capacity l) (omega arith)) w)
 
       -- the days on which the signs between the ends are passed, put into the list
       pub entries-put : (passed : ℕ) (m : List ℕ) → passed ≡ signs_passed sun first → n ≤ capacity l → m ≡ with_entries_from l 0 (days_passing sun (passed + 1) n) → m ≡ with_entries (sign_entries sun first last) l
       entries-put passed m p h w =
-          let o = (span-accepted first last e).ordered in
+          let o = (checked first last e).ordered in
           let same : days_passing sun (passed + 1) n ≡ sign_entries sun first last =
           ap₂ (λ (s k : ℕ). days_passing sun (s + 1) k) p (c ∙ entries-count sun first last o) ∙ sym (by_sign sun first last o) in
           w ∙ ap (with_entries_from l 0) same ∙ put_all (sign_entries sun first last) l (omega arith)

@@ -10,7 +10,8 @@ use Prim.Native.Nat.{ℕ, ◌+◌, ◌-◌, ◌*◌, ◌/◌, ◌%◌, ◌≤◌
 use native.Mathlib.Decide.{dec_le}
 use native.Mathlib.Omega.{arith}
 use lib.ListN.{length, get_or}
-use Rattle.days.specs.Days.{last_day, pair_at, the_number, days_from}
+use Rattle.days.specs.Days.{last_day, pair_at, days_from}
+use Rattle.std.specs.Prelude.{Ok}
 use Rattle.entries.specs.Entries.{capacity, with_entries, entry_at}
 use Rattle.entries.proofs.Laws.{entries-read}
 use Rattle.entries.proofs.Lists.{Ascending, Has, days-ascend, listed, has-filtered, in-days, has-at}
@@ -111,7 +112,7 @@ module _ (sun : Sun) where
         last ≤ last_day →
         length (sign_entries sun first last) ≤ capacity l →
         i < length (sign_entries sun first last) →
-        entry_at (with_entries (sign_entries sun first last) l) i ≡ the_number (get_or (sign_entries sun first last) i 0)
+        entry_at (with_entries (sign_entries sun first last) l) i ≡ Ok (get_or (sign_entries sun first last) i 0)
     entered-read l i e room h =
         entries-read (sign_entries sun first last) l i room h (omega (arith, (entered_only first last _ o (has-at i (sign_entries sun first last) h)).to_last))
 

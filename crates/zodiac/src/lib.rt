@@ -3,12 +3,14 @@
 #![tactic(auto)]
 
 ghost use Rattle.std.specs.Prelude.{◌≡◌, ℕ, ◌+◌, ◌%◌, ◌≤◌, get_or};
-ghost use Rattle.days.specs.Days.{last_day, on_day};
+ghost use Rattle.days.specs.Days.{last_day, answer_on};
 ghost use Rattle.entries.specs.Entries.{capacity, with_entries_from};
 ghost use Rattle.zodiac.specs.Zodiac.{sun_at, sign_of, length_needed, listing_of, entries_after};
 ghost use Rattle.zodiac.specs.Passed.{delays, passed_by, day_by, days_by};
 
-use days::{Day, NumberAnswer, refusal};
+use days::Day;
+use days::refusal::Refusal;
+use entries::NotPut;
 use longitudes::{Body, CIRCLE, SUN};
 
 // Which Sun is meant.
@@ -34,43 +36,28 @@ const DELAYS: [u32; SIGNS] = [
     0, 1750, 5192, 9444, 13129, 15270, 15334, 13411, 10088, 6136, 2622, 361,
 ];
 
-// How many entries there are, where the span is not refused. The last number, which in the search tells the days
-// examined, is always 0.
-#[derive(Clone, Copy)]
-pub struct Listing {
-    pub refusal: u32,
-    pub length: u32,
-    pub examined: u32,
-}
-
-fn longitude(sun: Sun, day: Day) -> NumberAnswer
-    ensures { result ≡ on_day (sun_at sun) day }
+fn longitude(sun: Sun, day: Day) -> Result<u32, Refusal>
+    ensures { result ≡ answer_on (sun_at sun) day }
 {
     match sun {
         Sun::Mean => {
-            let mean = longitudes::mean_longitude(Body::Sun, day);
-            NumberAnswer {
-                refusal: mean.refusal,
-                number: mean.seconds,
-            }
+            let mean = longitudes::mean_longitude(Body::Sun, day)?;
+            Ok(mean.seconds)
         }
         Sun::True => panchanga::true_sun(day),
     }
 }
 
 // The sign in which the Sun stands: 0 Meṣa to 11 Mīna.
-pub fn sign_by(sun: Sun, day: Day) -> NumberAnswer
+pub fn sign_by(sun: Sun, day: Day) -> Result<u32, Refusal>
     ensures { result ≡ sign_of sun day }
 {
-    let found = longitude(sun, day);
-    if found.refusal != refusal::NONE {
-        return NumberAnswer::refused(found.refusal);
-    }
-    NumberAnswer::accepted(found.number / SIGN)
+    let found = longitude(sun, day)?;
+    Ok(found / SIGN)
 }
 
 // The same of the mean Sun.
-pub fn sign_of(day: Day) -> NumberAnswer
+pub fn sign_of(day: Day) -> Result<u32, Refusal>
     ensures { result ≡ sign_of Sun.Mean day }
 {
     sign_by(Sun::Mean, day)
@@ -121,50 +108,33 @@ fn put_days(delays: &[u32; SIGNS], signs: u32, count: u32, list: &mut [u8])
     requires { ((12 ≤ signs) × (signs + count ≤ 13206)) × ((k : ℕ) → get_or delays.now (k % 12) 0 ≤ 15334) }
     ensures { list.new ≡ with_entries_from list.old 0 (days_by delays.now signs count) }
 {
-    let mut index = 0;
-    while index < count {
+    for index in 0..count {
         let day = day_passing(delays, signs + index);
         entries::put_entry(list, index as usize, day);
-        index += 1;
     }
 }
 
 // Writes the days of the span after its first on which the Sun stands in another sign than the day before to the list,
-// earliest first, or leaves it as it was. The Sun enters each sign once, so they are as many as it passes between the
-// ends.
-pub fn entries_by(sun: Sun, first: u32, last: u32, list: &mut [u8]) -> Listing
+// earliest first, and hands back how many they are, or leaves it as it was. The Sun enters each sign once, so they are
+// as many as it passes between the ends.
+pub fn entries_by(sun: Sun, first: u32, last: u32, list: &mut [u8]) -> Result<u32, NotPut>
     ensures value { result ≡ listing_of sun first last (capacity list.old) }
     ensures list_after { list.new ≡ entries_after sun first last list.old }
 {
-    let refusal = days::span_refusal(first, last);
-    if refusal != refusal::NONE {
-        return Listing {
-            refusal,
-            length: 0,
-            examined: 0,
-        };
-    }
+    days::check_span(first, last)?;
     let delays = delays_of(sun);
     let before = signs_passed(&delays, first);
     let after = signs_passed(&delays, last);
     let length = after - before;
     if list.len() / entries::ENTRY_BYTES < length as usize {
-        return Listing {
-            refusal: refusal::LIST_TOO_SHORT,
-            length,
-            examined: 0,
-        };
+        return Err(NotPut::TooShort(length));
     }
     put_days(&delays, before + 1, length, list);
-    Listing {
-        refusal: refusal::NONE,
-        length,
-        examined: 0,
-    }
+    Ok(length)
 }
 
 // The same by the mean Sun.
-pub fn sign_entries(first: u32, last: u32, list: &mut [u8]) -> Listing
+pub fn sign_entries(first: u32, last: u32, list: &mut [u8]) -> Result<u32, NotPut>
     ensures value { result ≡ listing_of Sun.Mean first last (capacity list.old) }
     ensures list_after { list.new ≡ entries_after Sun.Mean first last list.old }
 {
@@ -172,22 +142,19 @@ pub fn sign_entries(first: u32, last: u32, list: &mut [u8]) -> Listing
 }
 
 // How many entries a span has, the length of a list that would do: told for a list without any.
-pub fn entries_length_by(sun: Sun, first: u32, last: u32) -> NumberAnswer
+pub fn entries_length_by(sun: Sun, first: u32, last: u32) -> Result<u32, Refusal>
     ensures { result ≡ length_needed sun first last }
 {
     let mut none = [0u8; 0];
-    let found = entries_by(sun, first, last, &mut none);
-    if found.refusal == refusal::LIST_TOO_SHORT {
-        return NumberAnswer::accepted(found.length);
-    }
-    NumberAnswer {
-        refusal: found.refusal,
-        number: found.length,
+    match entries_by(sun, first, last, &mut none) {
+        Ok(length) => Ok(length),
+        Err(NotPut::TooShort(length)) => Ok(length),
+        Err(NotPut::Refused(refusal)) => Err(refusal),
     }
 }
 
 // The same by the mean Sun.
-pub fn sign_entries_length(first: u32, last: u32) -> NumberAnswer
+pub fn sign_entries_length(first: u32, last: u32) -> Result<u32, Refusal>
     ensures { result ≡ length_needed Sun.Mean first last }
 {
     entries_length_by(Sun::Mean, first, last)

@@ -1,11 +1,8 @@
--- What each turn of the loop keeps, and what falls.
-use Prim.Native.Nat.{◌-◌, ◌≤◌}
-use lib.ListN.{length}
+-- What each turn of the loop keeps.
+use mathlib.Core.Path.{◌≡◌}
+use Rattle.std.specs.Slice.Iter.{chunks_rest, chunks_size}
 use Rattle.almanac.proofs.Through.{Gone}
 use Rattle.almanac.proofs.go_through.Given as goal
 
-abbrev pub invariant-loop-at : goal.invariant-loop-at
-invariant-loop-at l = (l.at ≤ length l.file) × Gone l.file l.reader l.at
-
-abbrev pub decreases-loop-at : goal.decreases-loop-at
-decreases-loop-at l = length l.file - l.at
+abbrev pub invariant-loop-piece : goal.invariant-loop-piece
+invariant-loop-piece l = (chunks_size l.piece-iterator ≡ 512) × Gone l.file l.reader (chunks_rest l.piece-iterator)

@@ -1,19 +1,13 @@
--- `line` meets its contract: the refusal, the count and the line's index decide which line is meant. Assumes nothing.
+-- `line` meets its contract: that of the days that were read, or the refusal's and nothing behind it. Assumes nothing.
 use Rattle.text.proofs.Holding.{nothing-held}
-use Rattle.almanac_sheet.proofs.Lines.{meant, first-refused, rest-refused, first-is-heading, none-behind, line-of-day}
+use Rattle.almanac_sheet.proofs.Lines.{meant, first-refused, rest-refused, lines-read}
 use Rattle.almanac_sheet.proofs.line.Goals as goal
 
+pub returns-in-Ok : goal.returns-in-Ok
+returns-in-Ok c = rw (c.in-Ok.is, lines-read c.in-Ok.reading) c.read_line.ensures
+
 pub returns-then-index-eq0 : goal.returns-then-index-eq0
-returns-then-index-eq0 c = meant (first-refused _ _ c.if-reading-ne-NONE.true c.if-index-eq0.true) c.refusal_line.ensures
+returns-then-index-eq0 c = rw c.in-Err.is (meant (first-refused _ _ c.if-index-eq0.true) (rw c.number.ensures at c.refusal_line.ensures))
 
-pub returns-then-reading-ne-NONE : goal.returns-then-reading-ne-NONE
-returns-then-reading-ne-NONE c = meant (rest-refused _ _ c.if-reading-ne-NONE.true c.if-index-eq0.false) (nothing-held _ c.empty.ensures)
-
-pub returns-then-index-eq0-2 : goal.returns-then-index-eq0-2
-returns-then-index-eq0-2 c = meant (first-is-heading _ _ c.if-reading-ne-NONE.false c.if-index-eq0-2.true) c.heading.ensures
-
-pub returns-then-reading-index : goal.returns-then-reading-index
-returns-then-reading-index c = meant (none-behind _ _ c.if-reading-ne-NONE.false c.if-reading-index.true) (nothing-held _ c.empty-then-reading-index.ensures)
-
-pub returns : goal.returns
-returns c = meant (line-of-day _ _ c.if-reading-ne-NONE.false c.if-index-eq0-2.false c.if-reading-index.false) c.day_line.ensures
+pub returns-else-index-eq0 : goal.returns-else-index-eq0
+returns-else-index-eq0 c = rw c.in-Err.is (meant (rest-refused _ _ c.if-index-eq0.false) (nothing-held _ c.empty.ensures))

@@ -9,4 +9,4 @@ pub returns : goal.returns
 returns c =
     let s = c.seconds_by-at.ensures in
     let body = c.steps_for-steps.ensures in
-    c.degrees.ensures ∙ ap degrees_of (signed _ s.1 ∙ ap pos (s.0 ∙ body.seconds _ c.requires.0))
+    c.degrees.ensures ∙ ap degrees_of (signed _ s.1 ∙ ap pos (s.0 ∙ body.seconds _ c.requires))

@@ -1,12 +1,13 @@
 -- `follow` meets its contract: held where it is refused and on the last day, else it runs at the rate; the laws are of
 -- any longitude, and the range is how far a mean body goes in a day. Assumes nothing.
-use mathlib.Core.Path.{sym, ◌∙◌}
 use Prim.Native.Nat.{◌<◌, ◌≤◌}
 use native.Mathlib.Omega.{arith}
+use Rattle.std.proofs.lemmas.Result.{err_from_is_err_and}
 use Rattle.days.specs.Days.{last_day}
-use Rattle.arms.specs.Orders.{seconds_on}
+use mathlib.Core.Path.{ap, ◌∙◌}
+use Rattle.arms.specs.Orders.{seconds_on, rate_on}
 use Rattle.arms.specs.Ranges.{IsRate}
-use Rattle.arms.proofs.Laws.{in-ranges, follow-held, follow-ends, follow-runs, hold-rate}
+use Rattle.arms.proofs.Laws.{order-checked, order-refused, in-ranges, follow-held, follow-ends, follow-runs, hold-rate}
 use Rattle.arms.proofs.Motion.{day-way}
 use Rattle.arms.proofs.Ranges.{rate-range}
 use Rattle.arms.proofs.follow.Goals as goal
@@ -14,18 +15,23 @@ use Rattle.arms.proofs.follow.Goals.{Else-day-eq-LAST}
 
 -- where it runs there is a next day, and such a body
 ranges : (c : Else-day-eq-LAST) → (c.args.day < last_day) × (c.args.body ≤ 8)
-ranges c = let r = in-ranges _ _ (sym c.refusal_on-refusal.ensures ∙ c.if-refusal-ne-NONE.false) in (omega (arith, r.0, c.if-day-eq-LAST.false), r.1)
+ranges c = let r = in-ranges _ _ (order-checked _ _ c.in_ok-body.ensures).accepted in (omega (arith, r.0, c.if-day-eq-LAST.false), r.1)
 
-pub returns-then-refusal-ne-NONE : goal.returns-then-refusal-ne-NONE
-returns-then-refusal-ne-NONE c = let both = follow-held seconds_on IsRate _ _ _ c.refusal_on-refusal.ensures hold-rate c.if-refusal-ne-NONE.true in record { meant = both.0; range = both.1 }
+pub returns-in_err-body : goal.returns-in_err-body
+returns-in_err-body c =
+    let p = err_from_is_err_and c.from_residual.result c.from_residual.ensures.1 in
+    let both = follow-held seconds_on IsRate _ _ hold-rate (order-refused _ _ c.in_err-body.ensures) in
+    rw (p.1, p.2) (record { meant = both.0; range = both.1 })
 
 pub returns-then-day-eq-LAST : goal.returns-then-day-eq-LAST
-returns-then-day-eq-LAST c = let both = follow-ends seconds_on IsRate _ _ _ c.refusal_on-refusal.ensures hold-rate c.if-refusal-ne-NONE.false (omega (arith, c.if-day-eq-LAST.true)) in record { meant = both.0; range = both.1 }
+returns-then-day-eq-LAST c = let both = follow-ends seconds_on IsRate _ _ hold-rate (order-checked _ _ c.in_ok-body.ensures).accepted (omega (arith, c.if-day-eq-LAST.true)) in record { meant = both.0; range = both.1 }
 
 pub rate_on-rate-requires : goal.rate_on-rate-requires
-rate_on-rate-requires c = ranges (goal.at.rate_on-rate-requires c).Else-day-eq-LAST
+rate_on-rate-requires c = (ranges (goal.at.rate_on-rate-requires c).Else-day-eq-LAST).0
 
 pub returns : goal.returns
 returns c =
     let r = ranges (goal.at.returns c).Else-day-eq-LAST in
-    let both = follow-runs seconds_on IsRate _ _ _ c.refusal_on-refusal.ensures c.if-refusal-ne-NONE.false r.0 _ c.rate_on-rate.ensures (rate-range _ (day-way _ _ r.0 r.1)) in record { meant = both.0; range = both.1 }
+    let k = order-checked _ _ c.in_ok-body.ensures in
+    let both = follow-runs seconds_on IsRate _ _ k.accepted r.0 _ (c.rate_on-rate.ensures ∙ ap (rate_on seconds_on _) k.number) (rate-range _ (day-way _ _ r.0 r.1)) in
+    record { meant = both.0; range = both.1 }

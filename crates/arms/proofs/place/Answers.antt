@@ -1,16 +1,23 @@
 -- `place` meets its contract: held where it is refused, else it goes to the angle; the laws are of any longitude.
 -- Assumes nothing.
-use mathlib.Core.Path.{sym, ◌∙◌}
+use Rattle.std.proofs.lemmas.Result.{err_from_is_err_and}
 use Rattle.longitudes.proofs.Table.{longitude-small}
-use Rattle.arms.specs.Orders.{seconds_on}
-use Rattle.arms.proofs.Laws.{in-ranges, place-held, place-goes}
+use mathlib.Core.Path.{ap, ◌∙◌}
+use Rattle.arms.specs.Orders.{seconds_on, angle_on}
+use Rattle.arms.proofs.Laws.{order-checked, order-refused, in-ranges, place-held, place-goes}
 use Rattle.arms.proofs.place.Goals as goal
 
-pub returns-then-refusal-ne-NONE : goal.returns-then-refusal-ne-NONE
-returns-then-refusal-ne-NONE c = let both = place-held seconds_on _ _ _ c.refusal_on-refusal.ensures c.if-refusal-ne-NONE.true in record { meant = both.0; range = both.1.0; exact = both.1.1 }
+pub returns-in_err-body : goal.returns-in_err-body
+returns-in_err-body c =
+    let p = err_from_is_err_and c.from_residual.result c.from_residual.ensures.1 in
+    let both = place-held seconds_on _ _ (order-refused _ _ c.in_err-body.ensures) in
+    rw (p.1, p.2) (record { meant = both.0; range = both.1.0; exact = both.1.1 })
 
 pub angle_on-angle-requires : goal.angle_on-angle-requires
-angle_on-angle-requires c = in-ranges _ _ (sym c.refusal_on-refusal.ensures ∙ c.if-refusal-ne-NONE.false)
+angle_on-angle-requires c = (in-ranges _ _ (order-checked _ _ c.in_ok-body.ensures).accepted).0
 
 pub returns : goal.returns
-returns c = let both = place-goes seconds_on _ _ _ c.refusal_on-refusal.ensures c.if-refusal-ne-NONE.false (longitude-small _ _) _ c.angle_on-angle.ensures in record { meant = both.0; range = both.1.0; exact = both.1.1 }
+returns c =
+    let k = order-checked _ _ c.in_ok-body.ensures in
+    let both = place-goes seconds_on _ _ k.accepted (longitude-small _ _) _ (c.angle_on-angle.ensures ∙ ap (angle_on seconds_on _) k.number) in
+    record { meant = both.0; range = both.1.0; exact = both.1.1 }

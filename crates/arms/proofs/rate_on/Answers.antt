@@ -12,6 +12,6 @@ use Rattle.arms.proofs.rate_on.Goals as goal
 pub returns : goal.returns
 returns c =
     let body = c.steps_for-steps.ensures in
-    let forwards = c.forwards_by-forwards.ensures.0 ∙ ap₂ difference_of (body.seconds _ (omega (arith, c.requires.0))) (body.seconds _ (omega (arith, c.requires.0))) in
+    let forwards = c.forwards_by-forwards.ensures.0 ∙ ap₂ difference_of (body.seconds _ (omega (arith, c.requires))) (body.seconds _ (omega (arith, c.requires))) in
     let way = c.signed_way.ensures ∙ signed-way _ _ _ forwards in
     c.degrees.ensures ∙ ap degrees_of (to_z-of_z w32 _ (subst (SFits w32) (sym way) (way-fits _ _)) ∙ way)

@@ -1,45 +1,42 @@
--- `steps_for` meets its contract: each case is the body with that number, whose row is the table's. Assumes nothing.
-use mathlib.Core.Path.{◌≡◌}
+-- `steps_for` meets its contract: each case is its body, whose row is the table's. Assumes nothing.
 use native.Mathlib.Omega.{arith}
 use Rattle.longitudes.specs.Longitudes.{table}
 use Rattle.arms.specs.Parts.{steps_of}
 use Rattle.arms.proofs.Parts.{steps-for}
 use Rattle.arms.proofs.steps_for.Goals as goal
 
-pub returns-in-0 : goal.returns-in-0
+pub returns-in-Sun : goal.returns-in-Sun
 unfolding table steps_of
-returns-in-0 c = let e : c.args.body ≡ 0 = omega arith in rw e (steps-for 0 _ (omega arith) c.steps_of.ensures (omega arith))
+returns-in-Sun c = rw c.in-Sun.is (steps-for 0 _ (omega arith) c.steps_of.ensures (omega arith))
 
-pub returns-in-1 : goal.returns-in-1
+pub returns-in-Moon : goal.returns-in-Moon
 unfolding table steps_of
-returns-in-1 c = let e : c.args.body ≡ 1 = omega arith in rw e (steps-for 1 _ (omega arith) c.steps_of-in-1.ensures (omega arith))
+returns-in-Moon c = rw c.in-Moon.is (steps-for 1 _ (omega arith) c.steps_of-in-Moon.ensures (omega arith))
 
-pub returns-in-2 : goal.returns-in-2
+pub returns-in-MoonApogee : goal.returns-in-MoonApogee
 unfolding table steps_of
-returns-in-2 c = let e : c.args.body ≡ 2 = omega arith in rw e (steps-for 2 _ (omega arith) c.steps_of-in-2.ensures (omega arith))
+returns-in-MoonApogee c = rw c.in-MoonApogee.is (steps-for 2 _ (omega arith) c.steps_of-in-MoonApogee.ensures (omega arith))
 
-pub returns-in-3 : goal.returns-in-3
+pub returns-in-MoonNode : goal.returns-in-MoonNode
 unfolding table steps_of
-returns-in-3 c = let e : c.args.body ≡ 3 = omega arith in rw e (steps-for 3 _ (omega arith) c.steps_of-in-3.ensures (omega arith))
+returns-in-MoonNode c = rw c.in-MoonNode.is (steps-for 3 _ (omega arith) c.steps_of-in-MoonNode.ensures (omega arith))
 
-pub returns-in-4 : goal.returns-in-4
+pub returns-in-Mars : goal.returns-in-Mars
 unfolding table steps_of
-returns-in-4 c = let e : c.args.body ≡ 4 = omega arith in rw e (steps-for 4 _ (omega arith) c.steps_of-in-4.ensures (omega arith))
+returns-in-Mars c = rw c.in-Mars.is (steps-for 4 _ (omega arith) c.steps_of-in-Mars.ensures (omega arith))
 
-pub returns-in-5 : goal.returns-in-5
+pub returns-in-MercuryAnomaly : goal.returns-in-MercuryAnomaly
 unfolding table steps_of
-returns-in-5 c = let e : c.args.body ≡ 5 = omega arith in rw e (steps-for 5 _ (omega arith) c.steps_of-in-5.ensures (omega arith))
+returns-in-MercuryAnomaly c = rw c.in-MercuryAnomaly.is (steps-for 5 _ (omega arith) c.steps_of-in-MercuryAnomaly.ensures (omega arith))
 
-pub returns-in-6 : goal.returns-in-6
+pub returns-in-Jupiter : goal.returns-in-Jupiter
 unfolding table steps_of
-returns-in-6 c = let e : c.args.body ≡ 6 = omega arith in rw e (steps-for 6 _ (omega arith) c.steps_of-in-6.ensures (omega arith))
+returns-in-Jupiter c = rw c.in-Jupiter.is (steps-for 6 _ (omega arith) c.steps_of-in-Jupiter.ensures (omega arith))
 
-pub returns-in-7 : goal.returns-in-7
+pub returns-in-VenusAnomaly : goal.returns-in-VenusAnomaly
 unfolding table steps_of
-returns-in-7 c = let e : c.args.body ≡ 7 = omega arith in rw e (steps-for 7 _ (omega arith) c.steps_of-in-7.ensures (omega arith))
+returns-in-VenusAnomaly c = rw c.in-VenusAnomaly.is (steps-for 7 _ (omega arith) c.steps_of-in-VenusAnomaly.ensures (omega arith))
 
-pub returns-in_default : goal.returns-in_default
+pub returns-in-Saturn : goal.returns-in-Saturn
 unfolding table steps_of
-returns-in_default c =
-    let e : c.args.body ≡ 8 = omega arith in
-    rw e (steps-for 8 _ (omega arith) c.steps_of-in_default.ensures (omega arith))
+returns-in-Saturn c = rw c.in-Saturn.is (steps-for 8 _ (omega arith) c.steps_of-in-Saturn.ensures (omega arith))

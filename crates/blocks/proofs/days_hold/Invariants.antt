@@ -1,10 +1,7 @@
--- What each turn of the loop keeps, and what falls.
-use Prim.Native.Nat.{◌-◌, ◌≤◌}
+-- What each turn of the loop keeps.
+use Prim.Native.Nat.{◌≤◌}
 use Rattle.blocks.proofs.Steps.{DaysLeft}
 use Rattle.blocks.proofs.days_hold.Given as goal
 
 abbrev pub invariant-loop-place : goal.invariant-loop-place
 invariant-loop-place l = (l.place ≤ l.days) × DaysLeft l.day l.days l.block l.place
-
-abbrev pub decreases-loop-place : goal.decreases-loop-place
-decreases-loop-place l = l.days - l.place

@@ -1,5 +1,5 @@
--- What each turn of the loop keeps, and what falls.
-use Prim.Native.Nat.{◌-◌, ◌≤◌}
+-- What each turn of the loop keeps.
+use Prim.Native.Nat.{◌≤◌}
 use mathlib.Core.Path.{◌≡◌}
 use lib.ListN.{length}
 use Rattle.blocks.proofs.Steps.{DaysPut}
@@ -8,6 +8,3 @@ use Rattle.blocks.proofs.put_days.Given as goal
 abbrev pub invariant-loop-place : goal.invariant-loop-place
 invariant-loop-place l =
     (l.place ≤ l.days) × (length l.block ≡ length l.initial.block) × DaysPut l.day l.days l.initial.block l.block l.place
-
-abbrev pub decreases-loop-place : goal.decreases-loop-place
-decreases-loop-place l = l.days - l.place

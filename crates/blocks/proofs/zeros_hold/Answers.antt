@@ -1,17 +1,36 @@
--- `zeros_hold` meets its contract: what is asked of the bytes left is what was asked of all.
-use mathlib.Core.Path.{refl, sym, ◌∙◌}
-use native.Mathlib.Omega.{arith}
-use Rattle.blocks.proofs.Steps.{zeros-next, zeros-not, zeros-none}
+-- `zeros_hold` meets its contract. The loop's invariant: the bytes passed are zero.
+use mathlib.Core.Path.{◌≡◌, refl, sym, ap, ◌∙◌}
+use mathlib.Core.List.{List, [], ◌∷◌}
+use mathlib.Core.Bool.{◌&&◌}
+use Prim.Native.Nat.{ℕ, ◌-◌}
+use lib.Dec.{eqb}
+use lib.ListN.{take, drop}
+use borrow.Author.Tests.{eq-eqb, ne_eqb}
+use Rattle.std.proofs.lemmas.List.{take_all}
+use Rattle.std.proofs.lemmas.List.Folds.{list_all_more, list_all_at}
+use Rattle.std.specs.List.{list_all}
+use Rattle.blocks.specs.Blocks.{all_zero}
 use Rattle.blocks.proofs.zeros_hold.Goals as goal
 
-pub loop-i-init : goal.loop-i-init
-loop-i-init c = (omega arith, refl)
+zeros : (xs : List ℕ) → all_zero xs ≡ list_all (λ (b : ℕ). eqb b 0) xs
+unfolding all_zero
+zeros [] = refl
+zeros (x ∷ xs) = ap (λ r. eqb x 0 && r) (zeros xs)
 
-pub returns-then-block-i-ne0 : goal.returns-then-block-i-ne0
-returns-then-block-i-ne0 c = sym (sym c.loop-i.invariant.1 ∙ zeros-not c.args.block.now c.loop-i.i 508 (omega arith) (omega arith) c.if-block-i-ne0.true)
+pub loop-byte-init : goal.loop-byte-init
+loop-byte-init c = refl
 
-pub loop-i-preserved : goal.loop-i-preserved
-loop-i-preserved c = (omega arith, zeros-next c.args.block.now c.loop-i.i 508 (omega arith) (omega arith) c.if-block-i-ne0.false ∙ c.loop-i.invariant.1)
+pub returns-then-byte-ne0 : goal.returns-then-byte-ne0
+returns-then-byte-ne0 c =
+    let xs = take (508 - c.args.from) (drop c.args.from c.args.block.now) in
+    sym (zeros xs ∙ list_all_at (λ (b : ℕ). eqb b 0) xs c.loop-byte.byte-index 0 c.loop-byte-test.true (ne_eqb _ _ c.if-byte-ne0.true))
+
+pub loop-byte-preserved : goal.loop-byte-preserved
+loop-byte-preserved c =
+    let xs = take (508 - c.args.from) (drop c.args.from c.args.block.now) in
+    list_all_more (λ (b : ℕ). eqb b 0) xs c.loop-byte.byte-index 0 c.loop-byte-test.true ∙ rw (c.loop-byte.invariant, eq-eqb _ _ c.if-byte-ne0.false) refl
 
 pub returns : goal.returns
-returns c = sym (sym c.loop-i.invariant.1 ∙ zeros-none c.args.block.now c.loop-i.i 508 (omega arith))
+returns c =
+    let xs = take (508 - c.args.from) (drop c.args.from c.args.block.now) in
+    sym (zeros xs ∙ ap (list_all (λ (b : ℕ). eqb b 0)) (sym (take_all c.loop-byte.byte-index xs c.loop-byte-test.false)) ∙ c.loop-byte.invariant)

@@ -1,13 +1,11 @@
--- What each turn of the loop keeps, and what falls.
-use Prim.Native.Nat.{◌-◌, ◌≤◌}
+-- What each turn of the loop keeps: the bytes passed are zero.
 use mathlib.Core.Path.{◌≡◌}
-use lib.ListN.{take, drop}
-use Rattle.blocks.specs.Blocks.{all_zero}
+use mathlib.Core.Bool.{true}
+use Prim.Native.Nat.{ℕ}
+use lib.Dec.{eqb}
+use lib.ListN.{take}
+use Rattle.std.specs.List.{list_all}
 use Rattle.blocks.proofs.zeros_hold.Given as goal
 
-abbrev pub invariant-loop-i : goal.invariant-loop-i
-invariant-loop-i l =
-    (l.i ≤ 508) × (all_zero (take (508 - l.i) (drop l.i l.block)) ≡ all_zero (take (508 - l.from) (drop l.from l.block)))
-
-abbrev pub decreases-loop-i : goal.decreases-loop-i
-decreases-loop-i l = 508 - l.i
+abbrev pub invariant-loop-byte : goal.invariant-loop-byte
+invariant-loop-byte l = list_all (λ (b : ℕ). eqb b 0) (take l.byte-index l.byte-items) ≡ true

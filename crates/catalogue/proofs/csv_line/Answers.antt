@@ -6,4 +6,4 @@ use Rattle.catalogue.proofs.csv_line.Goals as goal
 
 pub returns : goal.returns
 unfolding csv_line
-returns c = rw (c.text.ensures, c.put_csv_elements.ensures, c.put_csv_fields-named.ensures, c.put_full_date-2.ensures, c.byte-dated.ensures, c.put_full_date.ensures, c.byte-numbered.ensures, c.number.ensures, c.empty.ensures, c.date_of-iso.ensures, c.date_of-civil.ensures) (simp (with-byte-is, with-bytes-append, append_assoc))
+returns c = rw (c.text.ensures, c.put_csv_elements.ensures, c.put_csv_fields-named.ensures, c.put_full_date-2.ensures, c.byte-dated.ensures, c.put_full_date.ensures, c.byte-numbered.ensures, c.number.ensures, c.empty.ensures, c.unwrap_or-iso.ensures, c.date_of.ensures, c.date_or_zeros-civil.ensures) (simp (with-byte-is, with-bytes-append, append_assoc))

@@ -13,7 +13,7 @@ ok c = sym c.exists.ensures ∙ c.if-not-exists.false
 
 pub returns-then-not-exists : goal.returns-then-not-exists
 unfolding counted
-returns-then-not-exists c = rw (c.refused.ensures, by_count c.args.date, sym c.exists.ensures ∙ c.if-not-exists.true)
+returns-then-not-exists c = rw (by_count c.args.date, sym c.exists.ensures ∙ c.if-not-exists.true)
 
 pub serial-serial-requires : goal.serial-serial-requires
 serial-serial-requires c =
@@ -23,7 +23,7 @@ serial-serial-requires c =
 
 pub returns-then-number : goal.returns-then-number
 unfolding counted
-returns-then-number c = rw (c.accepted.ensures, by_count c.args.date, ok (goal.at.returns-then-number c).Else-not-exists, ← c.serial-serial.ensures, le-leb _ _ c.if-serial-ge-DAY_0_SERIAL.true, le-leb _ _ c.if-number.true)
+returns-then-number c = rw (by_count c.args.date, ok (goal.at.returns-then-number c).Else-not-exists, ← c.serial-serial.ensures, le-leb _ _ c.if-serial-ge-DAY_0_SERIAL.true, le-leb _ _ c.if-number.true)
 
 pub returns-else-number : goal.returns-else-number
 unfolding counted

@@ -27,5 +27,5 @@ returns c =
     let line = c.refusal_line-line.result in
     let room = holds-room c.refusal_line-line.ensures in
     let all = copied-with-room (take line.len line.bytes) c.args.output.now (omega (arith, length-take line.len line.bytes, room)) in
-    let p = copied _ _ _ _ (whole c.refusal_line-line.ensures) (c.copy-put.ensures.value ∙ all) (rw all at c.copy-put.ensures.to_after) in
-    record { value = rw p.0; output_after = p.1 }
+    let p = copied _ _ _ _ (whole c.refusal_line-line.ensures) (c.copy.ensures.value ∙ all) (rw all at c.copy.ensures.to_after) in
+    record { value = rw c.number.ensures at p.0; output_after = rw c.number.ensures at p.1 }

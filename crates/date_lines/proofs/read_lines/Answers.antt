@@ -1,49 +1,59 @@
 -- `read_lines` meets its contract: what `Passed` and `Put` say holds before each line, and gives the answer at each of
 -- the three ends. Assumes nothing.
-use mathlib.Core.Path.{◌∙◌}
+use Prim.Native.Nat.{◌<◌}
+use mathlib.Core.Path.{◌≡◌, ap}
+use mathlib.Core.Bool.{false≢true}
+use mathlib.Core.List.{◌∷◌}
 use native.Mathlib.Omega.{arith}
-use Rattle.date_lines.proofs.Splitting.{line-to, some_at}
-use Rattle.date_lines.proofs.Reading.{passed_none, passed-end, passed-many, passed-bad, passed-good, not-accepted, put-none, put-end, put-line}
+use borrow.Author.Rules.{rules}
+use borrow.Author.Tests.{tests}
+use lib.Dec.{eqb}
+use lib.ListN.{length, length-append}
+use Rattle.std.proofs.lemmas.List.Sorted.{answers_always}
+use Rattle.std.specs.Slice.Iter.{split_inclusive_rest}
+use Rattle.text.specs.Lines.{newline}
+use Rattle.date_lines.specs.Texts.{lines_of}
+use Rattle.date_lines.proofs.Splitting.{line-cut}
+use Rattle.date_lines.proofs.Reading.{passed_none, passed-end, passed-many, passed-bad, passed-good, put-none, put-end, put-line}
 use Rattle.date_lines.proofs.read_lines.Goals as goal
+use Rattle.date_lines.proofs.read_lines.Goals.{In-Some}
 
-pub loop-at-init : goal.loop-at-init
-loop-at-init c = (passed_none _ _ _, put-none _ _ _)
+-- the line that came is the first one, and fewer bytes are left
+split : (c : In-Some) → lines_of (split_inclusive_rest c.loop-line.line-iterator) ≡ c.in-Some.line.now ∷ lines_of (split_inclusive_rest c.next.new.self)
+split c =
+    let s = c.in-Some.ensures.steps in
+    line-cut _ _ _ s.1.0 s.0 s.1.1 (s.1.2 (λ b. eqb b newline) (answers_always _ _ _ (λ f a r q k. search (rules, tests)))).1 s.2
 
-pub overflow_add-line : goal.overflow_add-line
-overflow_add-line c = omega (arith, c.loop-at.invariant.0.few, c.loop-at.invariant.0.within)
+fewer : (c : In-Some) → length (split_inclusive_rest c.next.new.self) < length (split_inclusive_rest c.loop-line.line-iterator)
+fewer c =
+    let s = c.in-Some.ensures.steps in
+    omega (arith, s.1.1, s.2, ap length s.0, length-append c.in-Some.line.now (split_inclusive_rest c.next.new.self))
 
-pub shape_of-kept-then-most-line : goal.shape_of-kept-then-most-line
-shape_of-kept-then-most-line c = c.loop-at.invariant.1.same
+pub loop-line-init : goal.loop-line-init
+loop-line-init c = (passed_none _ _ _ _ (cc), put-none _ _ _ _ (cc))
 
-pub returns-then-most-line : goal.returns-then-most-line
-returns-then-most-line c = record { value = c.refused_line.ensures ∙ passed-many _ _ _ _ _ c.loop-at.invariant.0 c.loop-at-test.true c.if-most-line.true; kept_after = λ z. absurd (not-accepted _ _ _ c.refused_line.ensures (λ k. omega arith) z) }
+pub overflow_add-place : goal.overflow_add-place
+overflow_add-place c = omega (arith, c.loop-line.invariant.0.few)
 
-pub line_end-end-requires : goal.line_end-end-requires
-line_end-end-requires c = omega (arith, c.loop-at.invariant.0.within)
+pub returns-then-most-place : goal.returns-then-most-place
+returns-then-most-place c =
+    let s = split (goal.at.returns-then-most-place c).In-Some in
+    record { value = passed-many _ _ _ _ _ c.loop-line.invariant.0 _ _ s c.if-most-place.true; kept_after = λ z. absurd (false≢true z) }
 
-pub slice_bounds-read_line-count : goal.slice_bounds-read_line-count
-slice_bounds-read_line-count c = omega (arith, c.line_end-end.ensures.0)
+pub returns-in-Err : goal.returns-in-Err
+returns-in-Err c =
+    let s = split (goal.at.returns-in-Err c).In-Some in
+    record { value = passed-bad _ _ _ _ _ c.loop-line.invariant.0 _ _ s c.if-most-place.false c.in-Err.ensures; kept_after = λ z. absurd (false≢true z) }
 
-pub slice_bounds-read_line-start : goal.slice_bounds-read_line-start
-slice_bounds-read_line-start c = omega (arith, c.line_end-end.ensures)
-
-pub slice_bounds-read_line-end : goal.slice_bounds-read_line-end
-slice_bounds-read_line-end c = omega (arith, c.line_end-end.ensures)
-
-pub shape_of-kept-then-read-ne-NONE : goal.shape_of-kept-then-read-ne-NONE
-shape_of-kept-then-read-ne-NONE c = c.loop-at.invariant.1.same
-
-pub returns-then-read-ne-NONE : goal.returns-then-read-ne-NONE
-returns-then-read-ne-NONE c = record { value = c.refused_line-then-read-ne-NONE.ensures ∙ passed-bad _ _ _ _ _ c.loop-at.invariant.0 c.line_end-end.result _ _ c.loop-at-test.true c.if-most-line.false (line-to _ _ _ c.loop-at-test.true c.line_end-end.ensures.0) c.read_line-read.ensures c.if-read-ne-NONE.true; kept_after = λ z. absurd (not-accepted _ _ _ c.refused_line-then-read-ne-NONE.ensures c.if-read-ne-NONE.true z) }
-
-pub loop-at-smaller : goal.loop-at-smaller
-loop-at-smaller c = omega (arith, c.line_end-end.ensures, some_at c.args.text.now c.loop-at.at c.loop-at-test.true)
-
-pub loop-at-preserved : goal.loop-at-preserved
-loop-at-preserved c = let on = line-to _ _ _ c.loop-at-test.true c.line_end-end.ensures.0 in let further = some_at c.args.text.now c.loop-at.at c.loop-at-test.true in (passed-good _ _ _ _ _ c.loop-at.invariant.0 _ _ _ c.loop-at-test.true c.if-most-line.false on c.read_line-read.ensures c.if-read-ne-NONE.false (omega (arith, c.line_end-end.ensures)) c.line_end-end.ensures.1, put-line _ _ _ _ _ _ c.loop-at.invariant.1 _ _ _ _ on c.read_line-read.ensures c.put_entry.ensures (omega (arith, c.line_end-end.ensures)) c.line_end-end.ensures.1)
-
-pub shape_of-kept : goal.shape_of-kept
-shape_of-kept c = c.loop-at.invariant.1.same
+pub loop-line-preserved : goal.loop-line-preserved
+loop-line-preserved c =
+    let at = (goal.at.loop-line-preserved c).In-Some in
+    let s = split at in (
+      passed-good _ _ _ _ _ c.loop-line.invariant.0 _ _ s c.if-most-place.false c.in-Ok.ensures (fewer at),
+      put-line _ _ _ _ _ _ c.loop-line.invariant.1 _ _ _ s c.in-Ok.ensures c.put_entry.ensures,
+    )
 
 pub returns : goal.returns
-returns c = record { value = c.accepted.ensures ∙ passed-end _ _ _ _ _ c.loop-at.invariant.0 c.loop-at-test.false; kept_after = λ z. put-end _ _ _ _ _ _ c.loop-at.invariant.1 c.loop-at-test.false }
+returns c =
+    let none = c.in-None.ensures.steps.0 in
+    record { value = passed-end _ _ _ _ _ c.loop-line.invariant.0 none; kept_after = λ z. put-end _ _ _ _ _ _ c.loop-line.invariant.1 none }

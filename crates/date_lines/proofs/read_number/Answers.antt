@@ -1,13 +1,13 @@
 -- `read_number` meets its contract: 3 is told as 15. Assumes nothing.
-use mathlib.Core.Path.{◌∙◌}
-use borrow.Author.Tests.{eq-eqb, ne_eqb}
-use Rattle.date_lines.specs.Lines.{number_line_read}
+use borrow.Author.Rules.{rules}
+use Rattle.date_lines.proofs.Lines.{bad-input, other-refusal, a-day}
 use Rattle.date_lines.proofs.read_number.Goals as goal
 
-pub returns-then-read-eq-BAD_INPUT : goal.returns-then-read-eq-BAD_INPUT
-unfolding number_line_read
-returns-then-read-eq-BAD_INPUT c = c.refused.ensures ∙ rw (← c.read_day-read.ensures, eq-eqb _ _ c.if-read-eq-BAD_INPUT.true)
+pub returns-in-Err-BadInput : goal.returns-in-Err-BadInput
+returns-in-Err-BadInput c = bad-input _ (rw c.in-Err-BadInput.field-0-is at c.in-Err-BadInput.ensures)
 
-pub returns : goal.returns
-unfolding number_line_read
-returns c = rw (← c.read_day-read.ensures, ne_eqb _ _ c.if-read-eq-BAD_INPUT.false)
+pub returns-in-Err : goal.returns-in-Err
+returns-in-Err c = other-refusal _ c.in-Err.ensures (λ e. search rules)
+
+pub returns-in-Ok : goal.returns-in-Ok
+returns-in-Ok c = a-day _ c.in-Ok.ensures

@@ -1,26 +1,35 @@
--- `line` meets its contract: the refusal and the line's index decide which line is meant. Assumes nothing.
+-- `line` meets its contract: the answer and the line's index decide which line is meant. Assumes nothing.
+use Prim.Native.Nat.{◌≤◌}
 use native.Mathlib.Omega.{arith}
+use Rattle.text.specs.Sheets.{line_at}
 use Rattle.text.proofs.Holding.{nothing-held}
-use Rattle.drift_sheet.proofs.Lines.{first-refused, rest-refused, line-0, line-1, line-2, line-3, none-behind}
+use Rattle.text.proofs.Sheets.{line-behind}
 use Rattle.drift_sheet.proofs.line.Goals as goal
+use Rattle.drift_sheet.proofs.line.Goals.{in_default-via-in-Ok+in_default, in_default-via-in-Err+in_default}
 
-pub returns-then-index-eq0 : goal.returns-then-index-eq0
-returns-then-index-eq0 c = rw (first-refused c.args.drifts c.if-drifts-ne-NONE.true _ c.if-index-eq0.true) c.refusal_line.ensures
+pub returns-in-Ok-eq0 : goal.returns-in-Ok-eq0
+unfolding line_at
+returns-in-Ok-eq0 c = rw (c.in-Ok-eq0.is-0, c.in-Ok-eq0.is-1) c.heading.ensures
 
-pub returns-then-drifts-ne-NONE : goal.returns-then-drifts-ne-NONE
-returns-then-drifts-ne-NONE c = rw (rest-refused c.args.drifts c.if-drifts-ne-NONE.true _ c.if-index-eq0.false) (nothing-held _ c.empty.ensures)
+pub returns-in-Ok-eq1 : goal.returns-in-Ok-eq1
+unfolding line_at
+returns-in-Ok-eq1 c = rw (c.in-Ok-eq1.is-0, c.in-Ok-eq1.is-1) c.body_line.ensures
 
-pub returns-in-0 : goal.returns-in-0
-returns-in-0 c = rw (line-0 c.args.drifts c.if-drifts-ne-NONE.false _ c.in-0.is) c.heading.ensures
+pub returns-in-Ok-eq2 : goal.returns-in-Ok-eq2
+unfolding line_at
+returns-in-Ok-eq2 c = rw (c.in-Ok-eq2.is-0, c.in-Ok-eq2.is-1) c.body_line-in-Ok-eq2.ensures
 
-pub returns-in-1 : goal.returns-in-1
-returns-in-1 c = rw (line-1 c.args.drifts c.if-drifts-ne-NONE.false _ c.in-1.is) c.body_line.ensures
+pub returns-in-Ok-eq3 : goal.returns-in-Ok-eq3
+unfolding line_at
+returns-in-Ok-eq3 c = rw (c.in-Ok-eq3.is-0, c.in-Ok-eq3.is-1) c.body_line-in-Ok-eq3.ensures
 
-pub returns-in-2 : goal.returns-in-2
-returns-in-2 c = rw (line-2 c.args.drifts c.if-drifts-ne-NONE.false _ c.in-2.is) c.body_line-in-2.ensures
-
-pub returns-in-3 : goal.returns-in-3
-returns-in-3 c = rw (line-3 c.args.drifts c.if-drifts-ne-NONE.false _ c.in-3.is) c.body_line-in-3.ensures
+pub returns-in-Err-eq0 : goal.returns-in-Err-eq0
+unfolding line_at
+returns-in-Err-eq0 c = rw (c.in-Err-eq0.is-0, c.in-Err-eq0.is-1) (rw c.number.ensures at c.refusal_line.ensures)
 
 pub returns-in_default : goal.returns-in_default
-returns-in_default c = rw (none-behind c.args.drifts c.if-drifts-ne-NONE.false c.args.index (omega arith)) (nothing-held _ c.empty-in_default.ensures)
+returns-in_default c =
+    elim c.in_default.branch [
+      | in_default-via-in-Ok+in_default w ↦ let far : 4 ≤ c.args.index = omega (arith, w.in_default.is-1) in rw (w.in_default.is-0, line-behind _ c.args.index far) (nothing-held _ c.empty.ensures)
+      | in_default-via-in-Err+in_default w ↦ let far : 1 ≤ c.args.index = omega (arith, w.in_default.is-1) in rw (w.in_default.is-0, line-behind _ c.args.index far) (nothing-held _ c.empty.ensures)
+    ]

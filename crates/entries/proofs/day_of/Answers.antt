@@ -1,4 +1,4 @@
--- `day_of` meets its contract: two halves of two bytes each are the sum of four bytes by their weights.
+-- `day_of` meets its contract: the four bytes by their weights, lowest first.
 use native.Mathlib.Omega.{arith}
 use Rattle.entries.specs.Entries.{entry_day}
 use Rattle.entries.proofs.day_of.Goals as goal

@@ -1,7 +1,7 @@
 -- `entry_at` meets its contract: the day of the entry's four bytes.
 use borrow.Author.Tests.{lt-ltb, le-ltb}
-use mathlib.Core.Path.{ap, ◌∙◌}
-use Rattle.days.specs.Days.{the_number}
+use mathlib.Core.Path.{ap}
+use Rattle.std.specs.Prelude.{Ok}
 use Rattle.entries.specs.Entries.{entry_day, entry_at}
 use Rattle.entries.proofs.entry_at.Goals as goal
 
@@ -11,4 +11,4 @@ returns-then-list-index c = rw (le-ltb _ _ c.if-list-index.true)
 
 pub returns : goal.returns
 unfolding entry_at entry_day
-returns c = rw (lt-ltb _ _ c.if-list-index.false) (c.accepted.ensures ∙ ap the_number c.day_of-day.ensures)
+returns c = rw (lt-ltb _ _ c.if-list-index.false) (ap Ok c.day_of.ensures)

@@ -5,10 +5,10 @@ use Rattle.explanation.proofs.Elements.{refused-other}
 use Rattle.explanation.specs.Elements.{element_for}
 use Rattle.explanation.proofs.element_for.Goals as goal
 
-pub returns-in-Refused : goal.returns-in-Refused
+pub returns-in-Err : goal.returns-in-Err
 unfolding numbers_of
-returns-in-Refused c = refused-other 0 _ (ap numbers_of (sym c.in-Refused.is) ∙ c.why.ensures)
+returns-in-Err c = refused-other 0 _ (ap numbers_of (sym c.in-Err.is) ∙ c.why.ensures)
 
-pub returns-in-Told : goal.returns-in-Told
+pub returns-in-Ok : goal.returns-in-Ok
 unfolding numbers_of element_for
-returns-in-Told c = c.element_of.ensures ∙ ap element_for (ap numbers_of (sym c.in-Told.is) ∙ c.why.ensures)
+returns-in-Ok c = c.element_of.ensures ∙ ap element_for (ap numbers_of (sym c.in-Ok.is) ∙ c.why.ensures)

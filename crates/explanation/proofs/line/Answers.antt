@@ -12,16 +12,16 @@ use Rattle.explanation.proofs.line.Goals.{After-why}
 answer : (c : After-why) → numbers_of c.why.result ≡ why_of c.args.query c.args.day
 answer c = c.why.ensures
 
-pub returns-in-Refused : goal.returns-in-Refused
+pub returns-in-Err : goal.returns-in-Err
 unfolding numbers_of
-returns-in-Refused c =
-    let e = ap numbers_of (sym c.in-Refused.is) ∙ answer (goal.at.returns-in-Refused c).After-why in
-    rw (refused-line _ _ _ e) c.refusal_line.ensures
+returns-in-Err c =
+    let e = ap numbers_of (sym c.in-Err.is) ∙ answer (goal.at.returns-in-Err c).After-why in
+    rw (refused-line _ _ _ e) (rw c.number.ensures at c.refusal_line.ensures)
 
-pub returns-in-Told : goal.returns-in-Told
+pub returns-in-Ok : goal.returns-in-Ok
 unfolding numbers_of
-returns-in-Told c =
-    let e = ap numbers_of (sym c.in-Told.is) ∙ answer (goal.at.returns-in-Told c).After-why in
+returns-in-Ok c =
+    let e = ap numbers_of (sym c.in-Ok.is) ∙ answer (goal.at.returns-in-Ok c).After-why in
     holds _ _ (explanation-fits _ _ (ap (λ (x : Numbers). x.refusal) (sym e)))
     (rw (c.byte.ensures, c.with_edition.ensures, c.put_verdict-told.ensures, c.put_day.ensures, c.empty.ensures)
     (told_line _ _ _ _ e))

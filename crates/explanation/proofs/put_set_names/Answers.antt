@@ -1,5 +1,5 @@
 -- `put_set_names` meets its contract. The loop's invariant: with the names from this number on, the buffer is the whole
--- (Naming). The measure is the numbers left. Assumes nothing.
+-- (Naming). Assumes nothing.
 use Prim.Native.Nat.{◌+◌}
 use mathlib.Core.Path.{ap, ◌∙◌}
 use native.Mathlib.Omega.{arith}

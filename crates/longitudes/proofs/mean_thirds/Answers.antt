@@ -1,28 +1,15 @@
--- `mean_thirds` meets its contract: `in_range` tells which answer it is, and the body's remainder gives the thirds.
-use mathlib.Core.Bool.{true}
-use mathlib.Core.Path.{◌≡◌, sym, ap, ◌∙◌}
-use Prim.Native.Nat.{ℕ}
-use Rattle.days.specs.Days.{in_range, the_number}
-use Rattle.days.proofs.Laws.{given, refused}
-use Rattle.longitudes.specs.Longitudes.{thirds_at}
-use Rattle.longitudes.proofs.Answers.{thirds-fit, thirds-found}
+-- `mean_thirds` meets its contract: the thirds are those of the body's answer, refused where it is.
+use mathlib.Core.Path.{ap, ◌∙◌}
+use Rattle.std.specs.Prelude.{Ok}
+use Rattle.std.proofs.lemmas.Result.{err_from_is_err_and}
+use Rattle.longitudes.proofs.Answers.{answer-fits, thirds-given, thirds-refused}
 use Rattle.longitudes.proofs.mean_thirds.Goals as goal
-use Rattle.longitudes.proofs.mean_thirds.Goals.{Then-in_range}
 
-ok : (c : Then-in_range) → in_range c.args.day ≡ true
-ok c = sym c.in_range.ensures ∙ c.if-in_range.true
+pub returns-in_err-found : goal.returns-in_err-found
+returns-in_err-found c = let p = err_from_is_err_and c.from_residual.result c.from_residual.ensures.1 in rw (p.1, p.2) (thirds-refused _ _ c.in_err-found.ensures)
 
-pub longitude-found-requires : goal.longitude-found-requires
-longitude-found-requires c = (c.number-at.ensures.1, ok (goal.at.longitude-found-requires c).Then-in_range)
+pub thirds_of-requires : goal.thirds_of-requires
+thirds_of-requires c = answer-fits _ _ c.in_ok-found.ensures
 
-pub thirds_of-thirds-requires : goal.thirds_of-thirds-requires
-thirds_of-thirds-requires c = thirds-fit _ _ c.longitude-found.ensures c.number-at.ensures.1
-
-pub returns-then-in_range : goal.returns-then-in_range
-returns-then-in_range c =
-    c.accepted.ensures
-    ∙ ap the_number (c.thirds_of-thirds.ensures ∙ thirds-found _ _ c.longitude-found.ensures ∙ ap (λ (b : ℕ). thirds_at b c.args.day) c.number-at.ensures.0)
-    ∙ sym (given _ _ (ok (goal.at.returns-then-in_range c).Then-in_range))
-
-pub returns-else-in_range : goal.returns-else-in_range
-returns-else-in_range c = sym (refused _ _ (sym c.in_range.ensures ∙ c.if-in_range.false))
+pub returns : goal.returns
+returns c = ap Ok c.thirds_of.ensures ∙ thirds-given _ _ c.in_ok-found.ensures

@@ -9,14 +9,14 @@ use Rattle.lunar_month_sheet.proofs.read_input.Goals as goal
 
 pub returns-then-input-ge-TOO_LONG : goal.returns-then-input-ge-TOO_LONG
 unfolding asked_input
-returns-then-input-ge-TOO_LONG c = rw (le-ltb _ _ c.if-input-ge-TOO_LONG.true) c.refused.ensures
+returns-then-input-ge-TOO_LONG c = rw (le-ltb _ _ c.if-input-ge-TOO_LONG.true)
 
 pub overflow_add-end : goal.overflow_add-end
 overflow_add-end c = omega (arith, end-within _ _ c.run_length-end.ensures)
 
 pub returns-then-end-input : goal.returns-then-end-input
 unfolding asked_input is_one_line
-returns-then-end-input c = rw (lt-ltb _ _ c.if-input-ge-TOO_LONG.false, ne_eqb _ _ (rw c.run_length-end.ensures at c.if-end-input.true)) c.refused-then-end-input.ensures
+returns-then-end-input c = rw (lt-ltb _ _ c.if-input-ge-TOO_LONG.false, ne_eqb _ _ (rw c.run_length-end.ensures at c.if-end-input.true))
 
 pub returns : goal.returns
 unfolding asked_input is_one_line

@@ -7,8 +7,7 @@ use Rattle.lunar_month_sheet.proofs.read_words.Goals as goal
 
 pub returns-then-more-ne0 : goal.returns-then-more-ne0
 returns-then-more-ne0 c =
-    c.refused.ensures
-    ∙ three-words _ _ _ _ c.up_to-body.ensures c.after_word-others.ensures (c.first_word-more.ensures ∙ ap first_word c.after_word.ensures) c.if-more-ne0.true
+    three-words _ _ _ _ c.up_to-body.ensures c.after_word-others.ensures (c.first_word-more.ensures ∙ ap first_word c.after_word.ensures) c.if-more-ne0.true
 
 pub returns : goal.returns
 returns c =

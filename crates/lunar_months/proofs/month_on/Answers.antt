@@ -1,6 +1,7 @@
 -- `month_on` meets its contract: refused, or what is found among the days behind day 0.
 use borrow.Author.Tests.{le-leb, lt-leb}
-use mathlib.Core.Path.{◌≡◌, sym, ◌∙◌}
+use mathlib.Core.Path.{◌≡◌, sym, ap, ◌∙◌}
+use Rattle.std.specs.Prelude.{Ok}
 use mathlib.Core.Bool.{true}
 use native.Mathlib.Omega.{arith}
 use Rattle.panchanga.specs.TrueLongitudes.{is_edition}
@@ -25,8 +26,8 @@ find_starts-found-requires c = record { edition = edition (goal.at.find_starts-f
 
 pub returns-then-found-eq0 : goal.returns-then-found-eq0
 unfolding month_on
-returns-then-found-eq0 c = rw (edition (goal.at.returns-then-found-eq0 c).Else-not-is_edition, le-leb _ _ c.if-day-gt-LAST.false, from-epoch) (sym (latest-none _ _ c.find_starts-found.ensures c.if-found-eq0.true))
+returns-then-found-eq0 c = rw (edition (goal.at.returns-then-found-eq0 c).Else-not-is_edition, le-leb _ _ c.if-day-gt-LAST.false, from-epoch) (ap Ok (sym (latest-none _ _ c.find_starts-found.ensures c.if-found-eq0.true)))
 
 pub returns : goal.returns
 unfolding month_on
-returns c = rw (edition (goal.at.returns c).Else-not-is_edition, le-leb _ _ c.if-day-gt-LAST.false, from-epoch) (sym (latest-start _ _ c.find_starts-found.ensures c.if-found-eq0.false))
+returns c = rw (edition (goal.at.returns c).Else-not-is_edition, le-leb _ _ c.if-day-gt-LAST.false, from-epoch) (ap Ok (sym (latest-start _ _ c.find_starts-found.ensures c.if-found-eq0.false)))

@@ -1,5 +1,5 @@
 -- `put_blanks` meets its contract. The loop's invariant: with the blanks from this column on, the line is the whole.
--- The measure is the columns left. Assumes nothing.
+-- Assumes nothing.
 use mathlib.Core.Path.{refl, ap, sym, ◌∙◌}
 use native.Mathlib.Omega.{arith}
 use Rattle.text.specs.Lines.{space, with_bytes}

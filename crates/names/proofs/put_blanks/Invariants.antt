@@ -1,12 +1,8 @@
--- What each turn of the loop keeps, and what falls.
-use mathlib.Core.Path.{◌≡◌}
-use Prim.Native.Nat.{◌-◌}
+-- What each turn of the loop keeps.
+use Rattle.std.proofs.Common.{◌≡◌}
 use Rattle.text.specs.Lines.{with_bytes}
 use Rattle.names.specs.Columns.{blanks}
 use Rattle.names.proofs.put_blanks.Given as goal
 
 abbrev pub invariant-loop-at : goal.invariant-loop-at
 invariant-loop-at l = with_bytes l.made (blanks l.at l.to) ≡ with_bytes l.initial.made (blanks l.from l.to)
-
-abbrev pub decreases-loop-at : goal.decreases-loop-at
-decreases-loop-at l = l.to - l.at

@@ -3,7 +3,7 @@ use mathlib.Core.Path.{sym, ap, ◌∙◌}
 use native.Mathlib.Omega.{arith}
 use Rattle.words.proofs.Pieces.{after-shorter}
 use Rattle.page.specs.Page.{page_answer}
-use Rattle.page.proofs.Reading.{reading-start, reading-next, reading-not-ended, reading-end}
+use Rattle.page.proofs.Reading.{keyword-known, reading-start, reading-next, reading-not-ended, reading-end}
 use Rattle.page.proofs.read.Goals as goal
 
 pub loop-rest-init : goal.loop-rest-init
@@ -11,6 +11,9 @@ loop-rest-init c = rw (c.unmarked-rest.ensures, c.empty_page-page.ensures) (read
 
 pub returns-then-run_length-rest : goal.returns-then-run_length-rest
 returns-then-run_length-rest c = c.page_answer.ensures ∙ ap page_answer c.with_fault.ensures ∙ reading-not-ended _ _ _ _ c.loop-rest.invariant c.loop-rest-test.true (sym c.run_length.ensures ∙ c.if-run_length-rest.true)
+
+pub with_line-page-requires : goal.with_line-page-requires
+with_line-page-requires c = rw c.read_line-line.ensures (keyword-known _)
 
 pub overflow_add-number : goal.overflow_add-number
 overflow_add-number c = omega (arith, c.loop-rest.invariant.room, c.well_formed.0.1)

@@ -13,14 +13,14 @@ pub returns : goal.returns
 unfolding sighra_size manda_size
 returns c =
     let a = c.args in
-    let sighra = a.sighra.now in
+    let row = a.row.now in
     c.within_circle.ensures.0
     ∙ ap (λ (n : ℕ). (n + c.forwards-whole.result) % circle) c.within_circle-middle.ensures.0
     ∙ steps
     (record {
-      half-signed = size_is (ap (λ (n : ℕ). n / 2) (c.on_line.ensures.0 ∙ ap (straight_line sighra) c.within_half.ensures.0)) c.forwards-half.ensures;
-      anomaly-is = c.less-anomaly.ensures.0 ∙ ap (difference_of a.apogee) c.within_circle-place.ensures.0;
-      manda-signed = size_is (c.on_line-2.ensures.0 ∙ ap (straight_line a.manda.now) c.within_quarter.ensures.0) c.forwards-centre.ensures;
+      half-signed = size_is (ap (λ (n : ℕ). n / 2) (c.on_line.ensures.0 ∙ ap (straight_line row.sighra) c.within_half.ensures.0)) c.forwards-half.ensures;
+      anomaly-is = c.less-anomaly.ensures.0 ∙ ap (difference_of row.apogee) c.within_circle-place.ensures.0;
+      manda-signed = size_is (c.on_line-2.ensures.0 ∙ ap (straight_line row.manda) c.within_quarter.ensures.0) c.forwards-centre.ensures;
       second_is = c.less-second.ensures.0;
-      whole-signed = size_is (c.on_line-3.ensures.0 ∙ ap (straight_line sighra) c.within_half-2.ensures.0) c.forwards-whole.ensures;
+      whole-signed = size_is (c.on_line-3.ensures.0 ∙ ap (straight_line row.sighra) c.within_half-2.ensures.0) c.forwards-whole.ensures;
     })

@@ -1,33 +1,22 @@
--- `line` meets its contract: the answer of reading the day and the line's index decide which line is meant. Assumes
--- nothing.
-use Prim.Native.Nat.{◌-◌}
+-- `line` meets its contract: the day that was read, and for a refusal the line's index, decide which line is meant.
+-- Assumes nothing.
+use mathlib.Core.List.{[], ◌∷◌}
 use native.Mathlib.Omega.{arith}
-use lib.ListN.{get_or}
+use Rattle.days.specs.Refusals.{refusal_number}
+use Rattle.text.specs.Lines.{refusal_line}
 use Rattle.text.proofs.Holding.{nothing-held}
 use Rattle.text.proofs.Inputs.{day-read-low}
-use Rattle.plate.proofs.Lines.{first-refused, rest-refused, first-is-heading, line-of-body, none-behind, Found, found}
+use Rattle.text.proofs.Sheets.{line_first, line-behind}
+use Rattle.plate.specs.Plates.{plate_lines}
 use Rattle.plate.proofs.line.Goals as goal
-use Rattle.plate.proofs.line.Goals.{After-mean_longitudes-all}
 
-body-found : (c : After-mean_longitudes-all) → Found c.read_day-read.result.number (c.args.index - 1) (get_or c.mean_longitudes-all.result.longitudes (c.args.index - 1) 0) (get_or c.mean_longitudes-all.result.thirds (c.args.index - 1) 0)
-body-found c =
-    let low = day-read-low _ _ c.read_day-read.ensures c.if-read-ne-NONE.false in
-    found _ _ low (omega arith) c.from_number-answer.ensures c.mean_longitudes-all.ensures
+pub day_line-requires : goal.day_line-requires
+day_line-requires c = day-read-low _ _ c.in-Ok.ensures
 
-pub returns-then-index-eq0 : goal.returns-then-index-eq0
-returns-then-index-eq0 c = rw (first-refused _ _ c.read_day-read.ensures _ c.if-read-ne-NONE.true c.if-index-eq0.true) c.refusal_line.ensures
+pub returns-in-Err : goal.returns-in-Err
+unfolding plate_lines
+returns-in-Err c = rw (← c.in-Err.ensures, c.if-index-eq0.true, line_first _ _, ← c.number.ensures) c.refusal_line.ensures
 
-pub returns-then-read-ne-NONE : goal.returns-then-read-ne-NONE
-returns-then-read-ne-NONE c = rw (rest-refused _ _ c.read_day-read.ensures _ c.if-read-ne-NONE.true c.if-index-eq0.false) (nothing-held _ c.empty.ensures)
-
-pub returns-then-index-eq0-2 : goal.returns-then-index-eq0-2
-returns-then-index-eq0-2 c = rw (first-is-heading _ _ c.read_day-read.ensures _ c.if-read-ne-NONE.false c.if-index-eq0-2.true) c.heading.ensures
-
-pub returns-then-index-ge-LINES : goal.returns-then-index-ge-LINES
-returns-then-index-ge-LINES c = rw (none-behind _ _ c.read_day-read.ensures _ c.if-read-ne-NONE.false c.if-index-ge-LINES.true) (nothing-held _ c.empty-then-index-ge-LINES.ensures)
-
-pub body_line-requires : goal.body_line-requires
-body_line-requires c = let f = body-found (goal.at.body_line-requires c).After-mean_longitudes-all in (omega arith, f.below-circle, f.below-60)
-
-pub returns : goal.returns
-returns c = rw (line-of-body _ _ c.read_day-read.ensures _ c.if-read-ne-NONE.false c.if-index-eq0-2.false (omega arith), ← (body-found (goal.at.returns c).After-mean_longitudes-all).line) c.body_line.ensures
+pub returns-in-Err-2 : goal.returns-in-Err-2
+unfolding plate_lines
+returns-in-Err-2 c = rw (← c.in-Err.ensures, line-behind (refusal_line (refusal_number c.in-Err.refusal) ∷ []) c.args.index (omega (arith, c.if-index-eq0.false))) (nothing-held _ c.empty.ensures)

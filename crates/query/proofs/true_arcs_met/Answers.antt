@@ -1,5 +1,4 @@
--- `true_arcs_met` meets its contract. The loop's invariant: the true longitude of each body passed will do. The measure
--- is the bodies left.
+-- `true_arcs_met` meets its contract. The loop's invariant: the true longitude of each body passed will do.
 use mathlib.Core.Path.{◌≡◌, sym, ◌∙◌}
 use native.Mathlib.Omega.{arith}
 use borrow.Author.Count.{below_none, below_more}
@@ -16,13 +15,13 @@ tested c =
     (rw (in_order c.loop-place.place _ (omega arith)) at c.true_arcs_have.ensures) ∙ rw (known.0, known.1)
 
 pub loop-place-init : goal.loop-place-init
-loop-place-init c = (omega arith, below_none _)
+loop-place-init c = below_none _
 
 pub returns-then-not-true_arcs_have : goal.returns-then-not-true_arcs_have
 returns-then-not-true_arcs_have c = sym (place-not-met _ _ _ c.loop-place.place (omega arith) (sym (tested (goal.at.returns-then-not-true_arcs_have c).After-true_arcs_have) ∙ c.if-not-true_arcs_have.true))
 
 pub loop-place-preserved : goal.loop-place-preserved
-loop-place-preserved c = (omega arith, below_more _ _ c.loop-place.invariant.1 (sym (tested (goal.at.loop-place-preserved c).After-true_arcs_have) ∙ c.if-not-true_arcs_have.false))
+loop-place-preserved c = below_more _ _ c.loop-place.invariant (sym (tested (goal.at.loop-place-preserved c).After-true_arcs_have) ∙ c.if-not-true_arcs_have.false)
 
 pub returns : goal.returns
-returns c = sym (places-met _ _ _ (λ k h. c.loop-place.invariant.1 k (omega arith)))
+returns c = sym (places-met _ _ _ (λ k h. c.loop-place.invariant k (omega arith)))

@@ -1,6 +1,6 @@
--- What each turn of the loop keeps, and what falls.
+-- What each turn of the loop keeps.
 use mathlib.Core.Path.{◌≡◌}
-use Prim.Native.Nat.{ℕ, ◌≤◌, ◌-◌}
+use Prim.Native.Nat.{ℕ}
 use Rattle.days.specs.declared.Day.{Day}
 use Rattle.query.specs.declared.Query.{Query}
 use Rattle.reasons.specs.Conditions.{Cause, arcs_asked, true_conditions}
@@ -12,7 +12,4 @@ abbrev pub from : Query → Day → ℕ → Cause
 from q d k = unmet_from (arcs_asked q.arcs d) 9 (true_conditions q.edition q.true_arcs d) k
 
 abbrev pub invariant-loop-body : goal.invariant-loop-body
-invariant-loop-body l = (l.body ≤ 9) × (from l.query l.day l.body ≡ from l.query l.day 0)
-
-abbrev pub decreases-loop-body : goal.decreases-loop-body
-decreases-loop-body l = 9 - l.body
+invariant-loop-body l = from l.query l.day l.body ≡ from l.query l.day 0

@@ -1,7 +1,7 @@
--- What each turn of the loop keeps, and what falls.
+-- What each turn of the loop keeps.
 use mathlib.Core.List.{List, []}
 use mathlib.Core.Path.{◌≡◌}
-use Prim.Native.Nat.{ℕ, ◌≤◌, ◌-◌}
+use Prim.Native.Nat.{ℕ}
 use Rattle.days.specs.declared.Day.{Day}
 use Rattle.query.specs.declared.BodyArcs.{BodyArcs}
 use Rattle.reasons.specs.Conditions.{Cause, true_arcs_asked}
@@ -13,7 +13,4 @@ abbrev pub from : ℕ → List BodyArcs → Day → ℕ → Cause
 from edition arcs d k = unmet_from (true_arcs_asked edition arcs d) 7 [] k
 
 abbrev pub invariant-loop-place : goal.invariant-loop-place
-invariant-loop-place l = (l.place ≤ 7) × (from l.edition l.arcs l.day l.place ≡ from l.edition l.arcs l.day 0)
-
-abbrev pub decreases-loop-place : goal.decreases-loop-place
-decreases-loop-place l = 7 - l.place
+invariant-loop-place l = from l.edition l.arcs l.day l.place ≡ from l.edition l.arcs l.day 0

@@ -1,10 +1,9 @@
--- `nine_on` meets its contract: for a day in range each body's seconds are its own, and they stand in the table's
--- order.
+-- `nine_on` meets its contract: the bodies stand in the table's order.
 -- Assumes nothing.
-use Rattle.records.proofs.Answers.{nine-found}
+use Rattle.longitudes.specs.Longitudes.{table, longitude_at, longitudes_at}
 use Rattle.records.proofs.nine_on.Goals as goal
 
 pub returns : goal.returns
+unfolding longitudes_at longitude_at table
 returns c =
-    nine-found _ c.requires c.mean_longitude-sun.ensures c.mean_longitude-moon.ensures c.mean_longitude-apogee.ensures c.mean_longitude-node.ensures c.mean_longitude-mars.ensures
-    c.mean_longitude-mercury.ensures c.mean_longitude-jupiter.ensures c.mean_longitude-venus.ensures c.mean_longitude-saturn.ensures
+    rw (c.mean_on.ensures, c.mean_on-2.ensures, c.mean_on-3.ensures, c.mean_on-4.ensures, c.mean_on-5.ensures, c.mean_on-6.ensures, c.mean_on-7.ensures, c.mean_on-8.ensures, c.mean_on-9.ensures)

@@ -3,18 +3,18 @@ use mathlib.Core.Path.{◌≡◌}
 use native.Mathlib.Omega.{arith}
 use lib.ListN.{length}
 use borrow.Author.Rules.{rules}
-use Rattle.remarks.proofs.Saying.{remarks-short, refused-said, accepted-read}
+use Rattle.remarks.proofs.Saying.{refused-said, remarks-short}
 use Rattle.remarks.proofs.of_page.Goals as goal
 
-pub returns-then-read-ne-NONE : goal.returns-then-read-ne-NONE
-returns-then-read-ne-NONE c =
-    let said = refused-said _ _ _ c.read-read.ensures c.if-read-ne-NONE.true _ in
+pub returns-then-is_err : goal.returns-then-is_err
+returns-then-is_err c =
+    let said = refused-said _ _ (rw (c.read-read.ensures, c.if-is_err.true) at c.is_err.ensures.negation) _ in
     record { value = said.0; buffer_after = said.1; upper_bound = omega arith }
 
 pub put_all-requires : goal.put_all-requires
 put_all-requires c =
     let size : length c.args.buffer.now ≡ 8192 = search rules in
-    (accepted-read _ _ c.read-read.ensures c.if-read-ne-NONE.false, size)
+    (rw (c.read-read.ensures, c.if-is_err.false) at c.is_err.ensures.negation, size)
 
 pub returns : goal.returns
 returns c =

@@ -1,21 +1,16 @@
--- `span_remark` meets its contract: by the cases of a span (Cases). Assumes nothing.
+-- `span_remark` meets its contract: what is likely bounds its numbers, and nothing is said of none. Assumes nothing.
 use mathlib.Core.Path.{sym, ◌∙◌}
-use Rattle.remarks.proofs.Cases.{span-first, span_last, span-days}
-use Rattle.remarks.proofs.Fitting.{year-true}
+use Rattle.remarks.specs.Remarks.{span_remark}
+use Rattle.remarks.proofs.Fitting.{years-likely}
+use Rattle.remarks.proofs.Cases.{nothing-said}
 use Rattle.remarks.proofs.span_remark.Goals as goal
 
-pub returns-then-not-likely_year : goal.returns-then-not-likely_year
-returns-then-not-likely_year c = span-first _ _ _ _ _ c.read_decimal-from.ensures c.read_decimal-to.ensures (sym c.likely_year.ensures ∙ c.if-not-likely_year.true) c.empty.ensures
-
-pub returns-then-not-likely_year-2 : goal.returns-then-not-likely_year-2
-returns-then-not-likely_year-2 c =
-    span_last _ _ _ _ _ c.read_decimal-from.ensures c.read_decimal-to.ensures (sym c.likely_year.ensures ∙ c.if-not-likely_year.false)
-    (sym c.likely_year-2.ensures ∙ c.if-not-likely_year-2.true) c.empty-then-not-likely_year-2.ensures
-
 pub days_remark-requires : goal.days_remark-requires
-days_remark-requires c = (year-true _ (sym c.likely_year.ensures ∙ c.if-not-likely_year.false), year-true _ (sym c.likely_year-2.ensures ∙ c.if-not-likely_year-2.false))
+days_remark-requires c =
+    let h = rw (sym c.likely_years.ensures ∙ c.in-Some.is) at (years-likely c.read_decimal.result c.read_decimal-2.result) in
+    (h.0, h.1)
 
 pub returns : goal.returns
+unfolding span_remark
 returns c =
-    span-days _ _ _ _ _ c.read_decimal-from.ensures c.read_decimal-to.ensures (sym c.likely_year.ensures ∙ c.if-not-likely_year.false)
-    (sym c.likely_year-2.ensures ∙ c.if-not-likely_year-2.false) c.days_remark.ensures
+    nothing-said _ _ (rw (c.read_decimal.ensures, c.read_decimal-2.ensures) at (sym c.likely_years.ensures ∙ c.in_default.is)) c.empty.ensures

@@ -3,7 +3,7 @@ use mathlib.Core.Bool.{true}
 use mathlib.Core.Path.{◌≡◌, sym, ◌∙◌}
 use Prim.Native.Nat.{◌-◌, ◌<◌}
 use native.Mathlib.Omega.{arith}
-use Rattle.days.specs.Days.{the_number}
+use Rattle.std.specs.Prelude.{Ok}
 use Rattle.saka.specs.LunarDays.{fields_in_range, year_in_range, elapsed_extra_months, lunar_day_with, lunar_day}
 use Rattle.saka.proofs.Bounds.{InRange, in-range, reckoned}
 use Rattle.saka.proofs.ExtraMonths.{elapsed, too_few}
@@ -22,7 +22,7 @@ kept c = in-range _ ((sym c.fields_in_range.ensures ∙ c.if-not-fields_in_range
 elapsed-small : (c : Else-extra-pending) → c.extra_months-extra.result - c.pending_months-pending.result < 11
 elapsed-small c = omega (arith, (in-range _ ((sym c.fields_in_range.ensures ∙ c.if-not-fields_in_range.false)) ((sym c.year_in_range.ensures ∙ c.if-not-year_in_range.false))), c.extra_months-extra.ensures)
 
-elapsed-is : (c : Else-extra-pending) → elapsed_extra_months c.args.date ≡ the_number (c.extra_months-extra.result - c.pending_months-pending.result)
+elapsed-is : (c : Else-extra-pending) → elapsed_extra_months c.args.date ≡ Ok (c.extra_months-extra.result - c.pending_months-pending.result)
 elapsed-is c =
     let E = c.extra_months-extra.ensures in
     let P = c.pending_months-pending.ensures in
@@ -30,14 +30,11 @@ elapsed-is c =
 
 pub returns-then-not-fields_in_range : goal.returns-then-not-fields_in_range
 unfolding lunar_day lunar_day_with
-returns-then-not-fields_in_range c = rw (sym c.fields_in_range.ensures ∙ c.if-not-fields_in_range.true) c.refused.ensures
+returns-then-not-fields_in_range c = rw (sym c.fields_in_range.ensures ∙ c.if-not-fields_in_range.true)
 
 pub returns-then-not-year_in_range : goal.returns-then-not-year_in_range
 unfolding lunar_day lunar_day_with
 returns-then-not-year_in_range c = rw (fields-ok (goal.at.returns-then-not-year_in_range c).Else-not-fields_in_range, sym c.year_in_range.ensures ∙ c.if-not-year_in_range.true)
-
-pub extra_months-extra-requires : goal.extra_months-extra-requires
-extra_months-extra-requires c = record { date_value = fields-ok (goal.at.extra_months-extra-requires c).Else-not-fields_in_range; year_value = year-ok (goal.at.extra_months-extra-requires c).Else-not-year_in_range }
 
 pub returns-then-extra-pending : goal.returns-then-extra-pending
 unfolding lunar_day lunar_day_with
@@ -45,21 +42,19 @@ returns-then-extra-pending c =
     let E = c.extra_months-extra.ensures in
     let P = c.pending_months-pending.ensures in
     rw (fields-ok (goal.at.returns-then-extra-pending c).Else-not-fields_in_range, year-ok (goal.at.returns-then-extra-pending c).Else-not-year_in_range, too_few _ (rw (E, P) at c.if-extra-pending.true))
-    c.refused-then-extra-pending.ensures
 
-pub reckoned_day-requires : goal.reckoned_day-requires
-reckoned_day-requires c =
-    record { date_value = fields-ok (goal.at.reckoned_day-requires c).Else-not-fields_in_range; year_value = year-ok (goal.at.reckoned_day-requires c).Else-not-year_in_range; extra_bound = elapsed-small (goal.at.reckoned_day-requires c).Else-extra-pending }
+pub day-requires : goal.day-requires
+day-requires c = elapsed-small (goal.at.day-requires c).Else-extra-pending
 
 pub on_weekday-requires : goal.on_weekday-requires
 on_weekday-requires c =
     let d = kept (goal.at.on_weekday-requires c).Else-not-year_in_range in
     let h = reckoned _ _ d (elapsed-small (goal.at.on_weekday-requires c).Else-extra-pending) in
-    let e = c.reckoned_day.ensures in
+    let e = c.day.ensures in
     record { reckoned_bound = rw e h; weekday_bound = d.weekday }
 
 pub returns : goal.returns
 unfolding lunar_day lunar_day_with
 returns c =
     rw (fields-ok (goal.at.returns c).Else-not-fields_in_range, year-ok (goal.at.returns c).Else-not-year_in_range, elapsed-is (goal.at.returns c).Else-extra-pending)
-    (c.on_weekday.ensures ∙ rw c.reckoned_day.ensures)
+    (c.on_weekday.ensures ∙ rw c.day.ensures)

@@ -1,29 +1,23 @@
--- `given_places` meets its contract. The loop's invariant is `Counting`. The measure is the places left.
+-- `given_places` meets its contract. The loop's invariant is `Counting`.
+use mathlib.Core.Path.{◌≡◌, sym, ◌∙◌}
 use native.Mathlib.Omega.{arith}
-use mathlib.Core.Path.{sym, ◌∙◌}
-use Rattle.search.proofs.Others.{counting-start, counting-given, counting-not, counting-end}
+use Rattle.search.proofs.Others.{counting-start, counting-first, counting-several, counting-not, counting-end}
 use Rattle.search.proofs.given_places.Goals as goal
-use Rattle.search.proofs.given_places.Goals.{then-given, else-given}
+use Rattle.search.proofs.given_places.Goals.{then-given+in-None, then-given+in-One, else-given}
 
 pub loop-place-init : goal.loop-place-init
 loop-place-init c = counting-start _
-
-pub overflow_add-count : goal.overflow_add-count
-overflow_add-count c = omega (arith, c.loop-place.invariant.few, c.loop-place.invariant.bound)
-
-pub overflow_add-place : goal.overflow_add-place
-overflow_add-place c = omega (arith, c.loop-place.invariant.bound)
-
-pub loop-place-smaller : goal.loop-place-smaller
-loop-place-smaller c = omega (arith, c.loop-place-test.true)
 
 pub loop-place-preserved : goal.loop-place-preserved
 loop-place-preserved c =
     let inv = c.loop-place.invariant in
     elim c.if-given.branch [
-      | then-given w ↦ rw (w.count-is, w.last-is) (counting-given _ _ _ _ inv (omega (arith, c.loop-place-test.true)))
-      | else-given w ↦ rw (w.count-is, w.last-is) (counting-not _ _ _ _ inv (omega (arith, c.loop-place-test.true)) (sym c.given.ensures ∙ w.if-given.false))
+      | then-given+in-None w ↦ rw w.places-is (counting-first _ _ (rw w.in-None.is at inv))
+      | then-given+in-One w ↦ rw w.places-is (counting-several _ _)
+      | else-given w ↦ rw w.places-is (counting-not _ _ _ (sym c.given.ensures ∙ w.if-given.false) inv)
     ]
 
 pub returns : goal.returns
-returns c = counting-end _ _ _ _ c.loop-place.invariant (omega arith)
+returns c =
+    let all : c.loop-place.place ≡ 7 = omega arith in
+    counting-end _ _ (rw all at c.loop-place.invariant)

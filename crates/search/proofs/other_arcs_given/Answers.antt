@@ -1,21 +1,30 @@
--- `other_arcs_given` meets its contract. The loop's invariant: no arc passed is given. The measure is the arcs left.
-use mathlib.Core.Path.{◌≡◌, sym, ◌∙◌}
-use mathlib.Core.Bool.{false}
-use Prim.Native.Nat.{ℕ, ◌<◌}
+-- `other_arcs_given` meets its contract: the arcs behind the first are those of the bodies but the Sun. The loop's
+-- invariant: none passed are given.
+use mathlib.Core.Path.{refl, sym, ap, ◌∙◌}
 use native.Mathlib.Omega.{arith}
-use borrow.Author.Count.{below_more}
-use Rattle.query.specs.Conditions.{arcs_given, arcs_at}
-use Rattle.search.proofs.Others.{arc-given, no-arc-given}
+use lib.ListN.{take, drop}
+use Rattle.std.proofs.lemmas.List.{take_all}
+use Rattle.std.proofs.lemmas.List.Folds.{list_any_more, list_any_at}
+use Rattle.std.specs.List.{list_any}
+use Rattle.query.specs.Conditions.{arcs_given, no_arcs}
+use Rattle.search.proofs.Others.{some-given}
 use Rattle.search.proofs.other_arcs_given.Goals as goal
 
-pub loop-body-init : goal.loop-body-init
-loop-body-init c = (omega arith, omega arith, λ k h l. absurd (omega arith))
+pub loop-of_body-init : goal.loop-of_body-init
+loop-of_body-init c = refl
 
 pub returns-then-given : goal.returns-then-given
-returns-then-given c = arc-given _ _ c.loop-body.invariant.0 (omega arith) (sym c.given.ensures ∙ c.if-given.true)
+returns-then-given c =
+    sym (list_any_at (λ a. arcs_given a) (take 8 (drop 1 c.args.arcs)) c.loop-of_body.of_body-index no_arcs c.loop-of_body-test.true (sym c.given.ensures ∙ c.if-given.true))
+    ∙ some-given c.args.arcs (omega arith)
 
-pub loop-body-preserved : goal.loop-body-preserved
-loop-body-preserved c = (omega arith, omega arith, below_more (λ (k : ℕ). 0 < k → arcs_given (arcs_at c.args.arcs k) ≡ false) c.loop-body.body c.loop-body.invariant.2 (λ h. sym c.given.ensures ∙ c.if-given.false))
+pub loop-of_body-preserved : goal.loop-of_body-preserved
+loop-of_body-preserved c =
+    list_any_more (λ a. arcs_given a) (take 8 (drop 1 c.args.arcs)) c.loop-of_body.of_body-index no_arcs c.loop-of_body-test.true
+    ∙ rw (c.loop-of_body.invariant, sym c.given.ensures, c.if-given.false) refl
 
 pub returns : goal.returns
-returns c = no-arc-given _ (λ k h l. c.loop-body.invariant.2 k (omega arith) h)
+returns c =
+    sym c.loop-of_body.invariant
+    ∙ ap (list_any (λ a. arcs_given a)) (take_all c.loop-of_body.of_body-index (take 8 (drop 1 c.args.arcs)) c.loop-of_body-test.false)
+    ∙ some-given c.args.arcs (omega arith)

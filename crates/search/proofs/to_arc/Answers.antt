@@ -13,6 +13,6 @@ returns-then-past-arc c = rw (← c.difference-past.ensures, lt-ltb _ _ c.if-pas
 pub overflow_sub-result : goal.overflow_sub-result
 overflow_sub-result c = omega (arith, is-small _ _ _ c.difference-past.ensures)
 
-pub returns : goal.returns
+pub returns-else-past-arc : goal.returns-else-past-arc
 unfolding approach_to in_arc
-returns c = rw (← c.difference-past.ensures, le-ltb _ _ c.if-past-arc.false)
+returns-else-past-arc c = rw (← c.difference-past.ensures, le-ltb _ _ c.if-past-arc.false)

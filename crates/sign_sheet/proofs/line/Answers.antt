@@ -1,19 +1,14 @@
--- `line` meets its contract: the listing's refusal and the line's index decide which line is meant. Assumes nothing.
+-- `line` meets its contract: that of the entries that are listed, or the refusal's and nothing behind it. Assumes
+-- nothing.
 use Rattle.text.proofs.Holding.{nothing-held}
-use Rattle.sign_sheet.proofs.Lines.{first-refused, rest-refused, first-is-heading, none-behind, line-of-entry, meant}
+use Rattle.sign_sheet.proofs.Lines.{first-refused, rest-refused, accepted-lines, meant}
 use Rattle.sign_sheet.proofs.line.Goals as goal
 
+pub returns-in-Ok : goal.returns-in-Ok
+returns-in-Ok c = rw (c.in-Ok.is, accepted-lines c.args.sun c.in-Ok.length c.args.list.now) c.line_of.ensures
+
 pub returns-then-index-eq0 : goal.returns-then-index-eq0
-returns-then-index-eq0 c = meant (first-refused _ _ _ _ c.if-listing-ne-NONE.true c.if-index-eq0.true) c.refusal_line.ensures
+returns-then-index-eq0 c = rw c.in-Err.is (meant (first-refused _ _ _ _ c.if-index-eq0.true) (rw (c.number.ensures, c.refusal.ensures) at c.refusal_line.ensures))
 
-pub returns-then-listing-ne-NONE : goal.returns-then-listing-ne-NONE
-returns-then-listing-ne-NONE c = meant (rest-refused _ _ _ _ c.if-listing-ne-NONE.true c.if-index-eq0.false) (nothing-held _ c.empty.ensures)
-
-pub returns-then-index-eq0-2 : goal.returns-then-index-eq0-2
-returns-then-index-eq0-2 c = meant (first-is-heading _ _ _ _ c.if-listing-ne-NONE.false c.if-index-eq0-2.true) c.heading.ensures
-
-pub returns-then-listing-index : goal.returns-then-listing-index
-returns-then-listing-index c = meant (none-behind _ _ _ _ c.if-listing-ne-NONE.false c.if-listing-index.true) (nothing-held _ c.empty-then-listing-index.ensures)
-
-pub returns : goal.returns
-returns c = meant (line-of-entry _ _ _ _ c.if-listing-ne-NONE.false c.if-index-eq0-2.false c.if-listing-index.false) c.listed_line.ensures
+pub returns-else-index-eq0 : goal.returns-else-index-eq0
+returns-else-index-eq0 c = rw c.in-Err.is (meant (rest-refused _ _ _ _ c.if-index-eq0.false) (nothing-held _ c.empty.ensures))

@@ -1,7 +1,7 @@
 -- `list_entries` meets its contract: the span's refusal decides, else its entries are listed, and all of them have
 -- room. Assumes nothing.
 use Prim.Native.Nat.{◌≤◌}
-use mathlib.Core.Path.{◌≡◌, ap, ◌∙◌}
+use mathlib.Core.Path.{◌≡◌, ap, sym, ◌∙◌}
 use native.Mathlib.Omega.{arith}
 use lib.ListN.{length}
 use borrow.Author.Rules.{rules}
@@ -17,19 +17,19 @@ use Rattle.sign_sheet.proofs.list_entries.Goals.{After-entries_by-listing}
 enough : (c : After-entries_by-listing) → most_entries ≤ capacity c.args.list.now
 enough c = let size : length c.args.list.now ≡ 52776 = search rules in omega arith
 
-pub returns-then-span-ne-NONE : goal.returns-then-span-ne-NONE
-returns-then-span-ne-NONE c =
+pub returns-in-Err : goal.returns-in-Err
+returns-in-Err c =
     let asks = c.of_marked_input-asked.ensures in
     let sun = c.sun_meant-sun.ensures ∙ ap (λ (m : Marked). sun_meant m.marked) asks in
-    let span = ap (λ (m : Marked). m.span) asks in
-    let listed = none-listed _ _ _ _ sun span c.if-span-ne-NONE.true in
-    record { value = listed.0; list_after = listed.1; list_after_2 = refused-together _ _ _ _ sun span c.if-span-ne-NONE.true }
+    let span = sym (ap (λ (m : Marked). m.span) asks) ∙ c.in-Err.is in
+    let listed = none-listed _ _ _ sun span in
+    record { value = listed.0; list_after = listed.1; list_after_2 = refused-together _ _ _ sun span }
 
-pub returns : goal.returns
-returns c =
+pub returns-in-Ok : goal.returns-in-Ok
+returns-in-Ok c =
     let asks = c.of_marked_input-asked.ensures in
     let sun = c.sun_meant-sun.ensures ∙ ap (λ (m : Marked). sun_meant m.marked) asks in
-    let span = ap (λ (m : Marked). m.span) asks in
+    let span = sym (ap (λ (m : Marked). m.span) asks) ∙ c.in-Ok.is in
     let found = c.entries_by-listing.ensures in
-    let listed = all_listed _ _ _ _ sun span c.if-span-ne-NONE.false _ _ found.value found.list_after in
-    record { value = listed.0; list_after = listed.1; list_after_2 = listed-together _ _ _ _ sun span c.if-span-ne-NONE.false (enough (goal.at.returns c).After-entries_by-listing) _ _ found.value found.list_after }
+    let listed = all_listed _ _ _ sun span _ _ found.value found.list_after in
+    record { value = listed.0; list_after = listed.1; list_after_2 = listed-together _ _ _ sun span (enough (goal.at.returns-in-Ok c).After-entries_by-listing) _ _ found.value found.list_after }

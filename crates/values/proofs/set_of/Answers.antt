@@ -1,38 +1,50 @@
--- `set_of` meets its contract: `Reading` holds before each value. The measure is the values that may follow. Assumes
--- nothing.
-use mathlib.Core.Path.{ap, ◌∙◌}
-use native.Mathlib.Omega.{arith}
-use lib.ListN.{length}
-use Rattle.values.proofs.Readings.{reading-start, reading-end, reading-many, reading-refused, reading-next, with-the-value}
+-- `set_of` meets its contract: `Reading` holds before each value. Assumes nothing.
+use Rattle.std.proofs.Common.{ap, sym, ◌∙◌, ◌≡◌, ◌-◌, ◌+◌, length, arith}
+use Rattle.std.proofs.lemmas.Result.{err_from_is_err_and}
+use borrow.Author.Tests.{eqb-true, eqb-false}
+use Rattle.words.specs.Words.{first_word}
+use Rattle.values.proofs.Readings.{reading-end, reading-many, reading-unread, reading-refused, reading-next}
 use Rattle.values.proofs.set_of.Goals as goal
+use Rattle.values.proofs.set_of.Goals.{Else-is_empty}
 
-pub loop-rest-init : goal.loop-rest-init
-loop-rest-init c = reading-start _ _ _ c.requires
+-- there is a word
+some-word : (c : Else-is_empty) → length (first_word c.loop-taken.rest.now) ≡ 0 → ⊥
+some-word c z = eqb-false _ 0 (sym c.if-is_empty.ensures) (ap length c.first_word-first.ensures ∙ z)
 
-pub returns-then-word-eq0 : goal.returns-then-word-eq0
-returns-then-word-eq0 c = c.no_empty_set.ensures ∙ reading-end _ _ _ _ _ _ c.loop-rest.invariant (rw c.first_word-word.ensures at c.if-word-eq0.true)
+pub returns-then-is_empty : goal.returns-then-is_empty
+returns-then-is_empty c =
+    c.no_empty_set.ensures
+    ∙ reading-end _ _ _ _ _ _ c.loop-taken.invariant.1 (ap length (sym c.first_word-first.ensures) ∙ eqb-true _ 0 (sym c.if-is_empty.ensures))
 
-pub returns-then-left-eq0 : goal.returns-then-left-eq0
-returns-then-left-eq0 c = c.refused.ensures ∙ reading-many _ _ _ _ _ _ c.loop-rest.invariant (λ z. c.if-word-eq0.false (ap length c.first_word-word.ensures ∙ z)) c.if-left-eq0.true
+pub returns-in_err-value : goal.returns-in_err-value
+returns-in_err-value c =
+    let p = err_from_is_err_and c.from_residual.result c.from_residual.ensures.1 in
+    rw (p.1, p.2)
+    (reading-unread _ _ _ _ _ _ c.loop-taken.invariant.1 (some-word (goal.at.returns-in_err-value c).Else-is_empty) (omega arith) (rw c.read_value-next.ensures at c.in_err-value.was))
 
-pub with_value-found-requires : goal.with_value-found-requires
-with_value-found-requires c = λ is. omega (arith, c.loop-rest.invariant.small is, c.if-left-eq0.false)
+pub returns-in_err-more : goal.returns-in_err-more
+returns-in_err-more c =
+    let p = err_from_is_err_and c.from_residual-in_err-more.result c.from_residual-in_err-more.ensures.1 in
+    rw (p.1, p.2)
+    (reading-refused _ _ _ _ _ _ c.loop-taken.invariant.1 (some-word (goal.at.returns-in_err-more c).Else-is_empty) (omega arith)
+    (rw c.read_value-next.ensures at c.in_ok-value.was)
+    (sym c.with_value.ensures ∙ c.in_err-more.was))
 
-pub returns-then-found-ne-NONE : goal.returns-then-found-ne-NONE
-returns-then-found-ne-NONE c =
-    reading-refused _ _ _ _ _ _ c.loop-rest.invariant (λ z. c.if-word-eq0.false (ap length c.first_word-word.ensures ∙ z)) c.if-left-eq0.false _
-    (with-the-value _ _ _ _ _ c.read_value-next.ensures c.with_value-found.ensures)
-    c.if-found-ne-NONE.true
+pub loop-taken-preserved : goal.loop-taken-preserved
+loop-taken-preserved c =
+    let less : c.args.most - (c.loop-taken.taken + 1) ≡ c.args.most - c.loop-taken.taken - 1 = omega arith in (
+      omega arith,
+      rw (less, c.after_words-rest.ensures, c.read_value-next.ensures)
+          (reading-next _ _ _ _ _ _ c.loop-taken.invariant.1 (some-word (goal.at.loop-taken-preserved c).Else-is_empty) (omega arith)
+          (rw c.read_value-next.ensures at c.in_ok-value.was)
+          (sym c.with_value.ensures ∙ c.in_ok-more.was)),
+    )
 
-pub overflow_sub-left : goal.overflow_sub-left
-overflow_sub-left c = omega (arith, c.if-left-eq0.false)
+pub returns-then-is_empty-2 : goal.returns-then-is_empty-2
+returns-then-is_empty-2 c =
+    c.no_empty_set-then-is_empty-2.ensures
+    ∙ reading-end _ _ _ _ _ _ c.loop-taken.invariant.1 (ap length (sym c.first_word.ensures) ∙ eqb-true _ 0 (sym c.if-is_empty-2.ensures))
 
-pub loop-rest-smaller : goal.loop-rest-smaller
-loop-rest-smaller c = omega (arith, c.if-left-eq0.false)
-
-pub loop-rest-preserved : goal.loop-rest-preserved
-loop-rest-preserved c =
-    rw (c.after_words-others.ensures, c.read_value-next.ensures)
-    (reading-next _ _ _ _ _ _ c.loop-rest.invariant (λ z. c.if-word-eq0.false (ap length c.first_word-word.ensures ∙ z)) c.if-left-eq0.false _
-    (with-the-value _ _ _ _ _ c.read_value-next.ensures c.with_value-found.ensures)
-    c.if-found-ne-NONE.false)
+pub returns-else-is_empty-2 : goal.returns-else-is_empty-2
+returns-else-is_empty-2 c =
+    reading-many _ _ _ _ _ _ c.loop-taken.invariant.1 (λ z. eqb-false _ 0 (sym c.if-is_empty-2.ensures) (ap length c.first_word.ensures ∙ z)) (omega arith)

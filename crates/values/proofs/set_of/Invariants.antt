@@ -1,9 +1,7 @@
--- What each turn of the loop keeps, and what falls.
+-- What each turn of the loop keeps.
+use Rattle.std.proofs.Common.{◌-◌, ◌≤◌}
 use Rattle.values.proofs.Readings.{Reading}
 use Rattle.values.proofs.set_of.Given as goal
 
-abbrev pub invariant-loop-rest : goal.invariant-loop-rest
-invariant-loop-rest l = Reading l.kind l.most l.text l.set l.left l.rest
-
-abbrev pub decreases-loop-rest : goal.decreases-loop-rest
-decreases-loop-rest l = l.left
+abbrev pub invariant-loop-taken : goal.invariant-loop-taken
+invariant-loop-taken l = (l.taken ≤ l.most) × Reading l.kind l.most l.text l.set (l.most - l.taken) l.rest

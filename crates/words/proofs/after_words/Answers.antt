@@ -1,9 +1,6 @@
 -- `after_words` meets its contract. The loop's invariant: what follows the words that are left is what is due. Assumes
 -- nothing.
-use mathlib.Core.Path.{◌≡◌, refl, ap, ◌∙◌}
-use mathlib.Core.List.{List}
-use Prim.Native.Nat.{ℕ, zero, suc, ◌-◌, ◌≤◌, ◌<◌}
-use native.Mathlib.Omega.{arith}
+use Rattle.std.proofs.Common.{◌≡◌, refl, ap, ◌∙◌, ℕ, zero, suc, ◌+◌, ◌-◌, ◌≤◌, ◌<◌, List, arith}
 use Rattle.words.specs.Words.{after_word, after_words}
 use Rattle.words.proofs.after_words.Goals as goal
 
@@ -17,11 +14,10 @@ unfolding after_words
 none_left zero bs h = refl
 none_left (suc n) bs h = absurd (omega arith)
 
-pub loop-more-init : goal.loop-more-init
-loop-more-init c = refl
-
-pub loop-more-preserved : goal.loop-more-preserved
-loop-more-preserved c = rw c.after_word-others.ensures (one_less _ _ c.loop-more-test.true ∙ c.loop-more.invariant)
+pub loop-preserved : goal.loop-preserved
+loop-preserved c =
+    let less : c.args.count - (c.loop.counter + 1) ≡ c.args.count - c.loop.counter - 1 = omega arith in
+    rw (less, c.after_word-rest.ensures) (one_less (c.args.count - c.loop.counter) _ (omega arith) ∙ c.loop.invariant)
 
 pub returns : goal.returns
-returns c = none_left _ _ c.loop-more-test.false ∙ c.loop-more.invariant
+returns c = none_left (c.args.count - c.loop.counter) _ (omega arith) ∙ c.loop.invariant

@@ -1,17 +1,14 @@
--- `run_length` meets its contract: before each byte, the bytes passed belong to the run. Assumes nothing.
-use mathlib.Core.Path.{sym, ◌∙◌}
-use native.Mathlib.Omega.{arith}
-use Rattle.words.proofs.Runs.{running-on, running-stops, running-end}
+-- `run_length` meets its contract: the first byte that does not belong to the run ends it. Assumes nothing.
+use Rattle.std.proofs.Common.{rules, tests, ◌∙◌, not}
+use Rattle.std.proofs.lemmas.Iterator.{YieldsList-from_slice}
+use Rattle.std.proofs.lemmas.Iterator.Search.{position_from_yields_List}
+use Rattle.words.specs.Words.{in_run}
+use Rattle.words.proofs.Runs.{run-found}
 use Rattle.words.proofs.run_length.Goals as goal
 
-pub loop-i-init : goal.loop-i-init
-loop-i-init c = (omega arith, omega arith)
-
-pub returns-then-not-belongs : goal.returns-then-not-belongs
-returns-then-not-belongs c = running-stops _ _ _ _ c.loop-i.invariant.1 (omega arith) (sym c.belongs.ensures ∙ c.if-not-belongs.true)
-
-pub loop-i-preserved : goal.loop-i-preserved
-loop-i-preserved c = (omega arith, running-on _ _ _ _ c.loop-i.invariant.1 (omega arith) (sym c.belongs.ensures ∙ c.if-not-belongs.false))
-
 pub returns : goal.returns
-returns c = running-end _ _ _ _ c.loop-i.invariant.1 c.loop-i-test.false
+returns c =
+    let a = c.args in
+    c.unwrap_or.ensures
+    ∙ run-found a.separators a.separator a.s.now _
+    (position_from_yields_List (λ b. not (in_run a.separators a.separator b)) _ _ c.position.result c.position.ensures.ran (YieldsList-from_slice _ c.iter.ensures.rest) (λ x b q k. search (rules, tests)))

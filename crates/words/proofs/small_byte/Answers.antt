@@ -1,37 +1,26 @@
--- `small_byte` meets its contract: the tests are the meaning's. Assumes nothing.
-use mathlib.Core.Path.{sym, ◌∙◌}
-use borrow.Author.Tests.{eq-eqb, ne_eqb, le-leb, lt-leb, lt-ltb, le-ltb}
-use Rattle.words.specs.Words.{small_byte}
+-- `small_byte` meets its contract: 195 is no byte before a mark. Assumes nothing.
+use Rattle.std.proofs.Common.{arith, ◌≡◌, refl, ℕ, ◌+◌, ◌%◌, ◌≤◌, Bool, true, false, sym, ◌∙◌}
+use lib.Dec.{eqb}
+use borrow.Author.Tests.{eqb-true, le-ltb, lt-leb, eq-eqb}
+use Rattle.words.specs.Words.{behind_mark, small_byte}
 use Rattle.words.proofs.small_byte.Goals as goal
+use Rattle.words.proofs.small_byte.Goals.{in_default-via-in-128-to-159+else-before-eq195, in_default-via-else-b-lt160}
 
-pub returns-then-b-lt65 : goal.returns-then-b-lt65
-unfolding small_byte
-returns-then-b-lt65 c = rw (lt-ltb _ _ c.if-b-lt65.true)
+other : (before : ℕ) → behind_mark before ≡ true → eqb before 195 ≡ false
+unfolding behind_mark
+other before m = go (eqb before 195) refl
+  where
+    go : (t : Bool) → eqb before 195 ≡ t → eqb before 195 ≡ false
+    go true e = absurd (let same : before ≡ 195 = eqb-true before 195 e in cc (rw same at m))
+    go false e = e
 
-pub returns-then-b-le90 : goal.returns-then-b-le90
+marked : (before b : ℕ) → 128 ≤ b → behind_mark before ≡ true → b % 2 ≡ 0 → b + 1 ≡ small_byte before b
 unfolding small_byte
-returns-then-b-le90 c = rw (le-ltb _ _ c.if-b-lt65.false, le-leb _ _ c.if-b-le90.true)
+marked before b h m even = rw (le-ltb b 65 (omega arith), lt-leb b 90 (omega arith), le-ltb b 128 h, other before m, m, eq-eqb (b % 2) 0 even)
 
-pub returns-then-b-lt128 : goal.returns-then-b-lt128
-unfolding small_byte
-returns-then-b-lt128 c = rw (le-ltb _ _ c.if-b-lt65.false, lt-leb _ _ c.if-b-le90.false, lt-ltb _ _ c.if-b-lt128.true)
-
-pub returns-then-b-lt160 : goal.returns-then-b-lt160
-unfolding small_byte
-returns-then-b-lt160 c = rw (le-ltb _ _ c.if-b-lt65.false, lt-leb _ _ c.if-b-le90.false, le-ltb _ _ c.if-b-lt128.false, eq-eqb _ _ c.if-before-eq195.true, lt-ltb _ _ c.if-b-lt160.true)
-
-pub returns-then-before-eq195 : goal.returns-then-before-eq195
-unfolding small_byte
-returns-then-before-eq195 c = rw (le-ltb _ _ c.if-b-lt65.false, lt-leb _ _ c.if-b-le90.false, le-ltb _ _ c.if-b-lt128.false, eq-eqb _ _ c.if-before-eq195.true, le-ltb _ _ c.if-b-lt160.false)
-
-pub returns-then-not-behind_mark : goal.returns-then-not-behind_mark
-unfolding small_byte
-returns-then-not-behind_mark c = rw (le-ltb _ _ c.if-b-lt65.false, lt-leb _ _ c.if-b-le90.false, le-ltb _ _ c.if-b-lt128.false, ne_eqb _ _ c.if-before-eq195.false, sym c.behind_mark.ensures ∙ c.if-not-behind_mark.true)
-
-pub returns-then-b-eq0 : goal.returns-then-b-eq0
-unfolding small_byte
-returns-then-b-eq0 c = rw (le-ltb _ _ c.if-b-lt65.false, lt-leb _ _ c.if-b-le90.false, le-ltb _ _ c.if-b-lt128.false, ne_eqb _ _ c.if-before-eq195.false, sym c.behind_mark.ensures ∙ c.if-not-behind_mark.false, eq-eqb _ _ c.if-b-eq0.true)
-
-pub returns-else-b-eq0 : goal.returns-else-b-eq0
-unfolding small_byte
-returns-else-b-eq0 c = rw (le-ltb _ _ c.if-b-lt65.false, lt-leb _ _ c.if-b-le90.false, le-ltb _ _ c.if-b-lt128.false, ne_eqb _ _ c.if-before-eq195.false, sym c.behind_mark.ensures ∙ c.if-not-behind_mark.false, ne_eqb _ _ c.if-b-eq0.false)
+pub returns-in_default : goal.returns-in_default
+returns-in_default c =
+    elim c.in_default.branch [
+      | in_default-via-in-128-to-159+else-before-eq195 w ↦ marked _ _ (omega arith) (sym c.behind_mark.ensures ∙ c.if-behind_mark.true) c.if-b-eq0.true
+      | in_default-via-else-b-lt160 w ↦ marked _ _ (omega arith) (sym c.behind_mark.ensures ∙ c.if-behind_mark.true) c.if-b-eq0.true
+    ]

@@ -5,8 +5,8 @@ use mathlib.Core.List.{List}
 use mathlib.Core.Path.{◌≡◌, sym, ap, ap₂, ◌∙◌}
 use native.Mathlib.Omega.{arith}
 use lib.ListN.{length}
-use Rattle.days.specs.Days.{span_refusal}
-use Rattle.days.proofs.Laws.{Span, span-accepted}
+use Rattle.std.proofs.lemmas.Result.{err_from_is_err_and}
+use Rattle.days.proofs.Laws.{Span, checked}
 use Rattle.zodiac.specs.Zodiac.{sign_entries}
 use Rattle.zodiac.specs.Passed.{passed_by, signs_passed}
 use Rattle.zodiac.proofs.Suns.{delay-small}
@@ -14,18 +14,12 @@ use Rattle.zodiac.proofs.Passed.{passed-at, passed-mono, passed_first, passed-la
 use Rattle.zodiac.proofs.Entering.{entries-count}
 use Rattle.zodiac.proofs.Answers.{entries-refused, too_many, all-written, entries-put}
 use Rattle.zodiac.proofs.entries_by.Goals as goal
-use Rattle.zodiac.proofs.entries_by.Goals.{Else-refusal-ne-NONE, After-signs_passed-after}
-
-accepted : (c : Else-refusal-ne-NONE) → span_refusal c.args.first c.args.last ≡ 0
-accepted c = sym c.span_refusal-refusal.ensures ∙ c.if-refusal-ne-NONE.false
-
-span : (c : Else-refusal-ne-NONE) → Span c.args.first c.args.last
-span c = span-accepted _ _ (accepted c)
+use Rattle.zodiac.proofs.entries_by.Goals.{After-signs_passed-after}
 
 -- the signs passed at the ends, and the entries between them
 module _ (c : After-signs_passed-after) where
   met : Span c.args.first c.args.last
-  met = span-accepted _ _ (sym c.span_refusal-refusal.ensures ∙ c.if-refusal-ne-NONE.false)
+  met = checked _ _ c.in_ok-check_span.ensures
 
   before-is : c.signs_passed-before.result ≡ signs_passed c.args.sun c.args.first
   before-is = c.signs_passed-before.ensures ∙ ap (λ (t : List ℕ). passed_by t c.args.first) c.delays_of-delays.ensures
@@ -39,18 +33,17 @@ module _ (c : After-signs_passed-after) where
   before-few : c.signs_passed-before.result ≤ 13205
   before-few = omega (arith, before-is, passed-last c.args.sun c.args.first (omega (arith, met.ordered, met.ends)))
 
-pub returns-then-refusal-ne-NONE : goal.returns-then-refusal-ne-NONE
-returns-then-refusal-ne-NONE c =
-    let both = entries-refused _ _ _ _ _ c.span_refusal-refusal.ensures c.if-refusal-ne-NONE.true in
-    record { value = both.0; list_after = both.1 }
+pub returns-in_err-check_span : goal.returns-in_err-check_span
+returns-in_err-check_span c =
+    let p = err_from_is_err_and c.from_residual.result c.from_residual.ensures.1 in
+    let both = entries-refused _ _ _ _ c.in_err-check_span.ensures in
+    record { value = rw (p.1, p.2) both.0; list_after = both.1 }
 
 pub signs_passed-before-requires : goal.signs_passed-before-requires
-signs_passed-before-requires c =
-    let s = span (goal.at.signs_passed-before-requires c).Else-refusal-ne-NONE in
-    omega (arith, s.ordered, s.ends)
+signs_passed-before-requires c = let s = checked _ _ c.in_ok-check_span.ensures in omega (arith, s.ordered, s.ends)
 
 pub signs_passed-after-requires : goal.signs_passed-after-requires
-signs_passed-after-requires c = (span (goal.at.signs_passed-after-requires c).Else-refusal-ne-NONE).ends
+signs_passed-after-requires c = (checked _ _ c.in_ok-check_span.ensures).ends
 
 pub overflow_sub-length : goal.overflow_sub-length
 overflow_sub-length c =
@@ -70,8 +63,7 @@ overflow_sub-length c =
 pub returns-then-list-length : goal.returns-then-list-length
 returns-then-list-length c =
     let r = (goal.at.returns-then-list-length c).After-signs_passed-after in
-    let e = accepted (goal.at.returns-then-list-length c).Else-refusal-ne-NONE in
-    let both = too_many _ _ _ _ _ e (length-is r) c.if-list-length.true in
+    let both = too_many _ _ _ _ _ c.in_ok-check_span.ensures (length-is r) c.if-list-length.true in
     record { value = both.0; list_after = both.1 }
 
 pub overflow_add-before : goal.overflow_add-before
@@ -91,7 +83,7 @@ returns c =
     let r = (goal.at.returns c).After-signs_passed-after in
     let fits = c.if-list-length.false in
     let table = c.delays_of-delays.ensures in
-    let e = accepted (goal.at.returns c).Else-refusal-ne-NONE in
+    let e = c.in_ok-check_span.ensures in
     let n = length-is r in
     let both = all-written _ _ _ _ _ e n _ fits (entries-put _ _ _ _ _ e n _ _ (before-is r) fits (rw table at c.put_days.ensures)) in
     record { value = both.0; list_after = both.1 }

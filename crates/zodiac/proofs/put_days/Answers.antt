@@ -1,4 +1,4 @@
--- `put_days` meets its contract. The loop's invariant is `Filling`; the measure is the days left to put.
+-- `put_days` meets its contract. The loop's invariant is `Filling`.
 use Rattle.zodiac.proofs.Filling.{filling-start, filling-next, filling-end}
 use Rattle.zodiac.proofs.put_days.Goals as goal
 

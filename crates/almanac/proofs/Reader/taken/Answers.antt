@@ -1,9 +1,10 @@
 -- `Reader::taken` meets its contract: the block is checked where none was bad before.
+use mathlib.Core.Path.{sym, ◌∙◌}
 use Rattle.almanac.proofs.Answers.{taken-checked, taken-passed}
 use Rattle.almanac.proofs.Reader.taken.Goals as goal
 
-pub returns-then-self-eq-NONE : goal.returns-then-self-eq-NONE
-returns-then-self-eq-NONE c = taken-checked _ _ _ c.if-self-eq-NONE.true c.check_block.ensures
+pub returns-then-is_ok : goal.returns-then-is_ok
+returns-then-is_ok c = taken-checked _ _ _ (sym c.is_ok.ensures.value ∙ c.if-is_ok.true) c.check_block-reader.ensures
 
-pub returns-else-self-eq-NONE : goal.returns-else-self-eq-NONE
-returns-else-self-eq-NONE c = taken-passed _ _ c.if-self-eq-NONE.false
+pub returns-else-is_ok : goal.returns-else-is_ok
+returns-else-is_ok c = taken-passed _ _ (sym c.is_ok.ensures.value ∙ c.if-is_ok.false)

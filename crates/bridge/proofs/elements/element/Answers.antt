@@ -6,42 +6,41 @@ use Prim.Native.Nat.{ℕ, ◌≤◌}
 use native.Mathlib.Omega.{arith}
 use lib.ListN.{get_or-eq_default}
 use Rattle.days.specs.declared.Day.{Day}
-use Rattle.days.specs.Days.{no_number}
-use Rattle.days.proofs.Laws.{is-number}
-use Rattle.days.specs.Refusals.{no_such_body}
+use Rattle.std.specs.Prelude.{Err}
+use Rattle.days.specs.declared.refusal.Refusal.TheVariants.{NoSuchBody}
 use Rattle.panchanga.specs.OnDays.{tithi_of, nakshatra_of, yoga_of, karana_of}
 use Rattle.bridge.specs.Elements.{element_from}
 use Rattle.bridge.proofs.elements.element.Goals as goal
 
-behind : (n ed : ℕ) (d : Day) → 4 ≤ n → no_number no_such_body ≡ element_from n ed d
+behind : (n ed : ℕ) (d : Day) → 4 ≤ n → Err NoSuchBody ≡ element_from n ed d
 unfolding element_from
-behind n ed d h = sym (get_or-eq_default (tithi_of ed d ∷ nakshatra_of ed d ∷ yoga_of ed d ∷ karana_of ed d ∷ []) (no_number no_such_body) h)
+behind n ed d h = sym (get_or-eq_default (tithi_of ed d ∷ nakshatra_of ed d ∷ yoga_of ed d ∷ karana_of ed d ∷ []) (Err NoSuchBody) h)
 
 pub returns-in-0 : goal.returns-in-0
 unfolding element_from
 returns-in-0 c =
     let which : c.args.which ≡ 0 = omega arith in
-    is-number (c.tithi.ensures ∙ rw (c.at-pair.ensures, which))
+    c.tithi.ensures ∙ rw (c.at-pair.ensures, which)
 
 pub returns-in-1 : goal.returns-in-1
 unfolding element_from
 returns-in-1 c =
     let which : c.args.which ≡ 1 = omega arith in
-    is-number (c.nakshatra.ensures ∙ rw (c.at-pair.ensures, which))
+    c.nakshatra.ensures ∙ rw (c.at-pair.ensures, which)
 
 pub returns-in-2 : goal.returns-in-2
 unfolding element_from
 returns-in-2 c =
     let which : c.args.which ≡ 2 = omega arith in
-    is-number (c.yoga.ensures ∙ rw (c.at-pair.ensures, which))
+    c.yoga.ensures ∙ rw (c.at-pair.ensures, which)
 
 pub returns-in-3 : goal.returns-in-3
 unfolding element_from
 returns-in-3 c =
     let which : c.args.which ≡ 3 = omega arith in
-    is-number (c.karana.ensures ∙ rw (c.at-pair.ensures, which))
+    c.karana.ensures ∙ rw (c.at-pair.ensures, which)
 
 pub returns-in_default : goal.returns-in_default
 returns-in_default c =
     let which : 4 ≤ c.args.which = omega arith in
-    is-number (c.refused.ensures ∙ behind _ _ _ which)
+    behind _ _ _ which

@@ -4,6 +4,4 @@ use Rattle.lunar_months.proofs.Answers.{number-most}
 use Rattle.bridge.proofs.months.month.Goals as goal
 
 pub returns : goal.returns
-returns c =
-    rw (c.numbers.ensures, c.month_at.ensures, c.row.ensures)
-    (record { refusal = refl; start = refl; number = refl; most = number-most _ _ _ _ })
+returns c = rw (c.month_numbers.ensures, c.month_at.ensures, c.row.ensures) (refl, number-most _ _ _ _)

@@ -1,11 +1,10 @@
--- `graha_almanac_write` meets its contract: the library's promise.
-use mathlib.Core.Path.{ap}
-use Rattle.almanac.specs.declared.Transfer.{Transfer}
-use Rattle.almanac.specs.Files.{writing_of}
+-- `graha_almanac_write` meets its contract: the library's promise, by its number.
+use mathlib.Core.Path.{ap, ◌∙◌}
+use Rattle.entries.specs.Told.{put_number}
+use Rattle.almanac.proofs.Answers.{writing-number}
 use Rattle.host.proofs.almanacs.graha_almanac_write.Goals as goal
 
 pub returns : goal.returns
-unfolding writing_of
 returns c =
     let s = c.write.ensures in
-    record { value = ap (λ (done : Transfer). done.refusal) s.value; file_after = s.file_after }
+    record { value = c.put_number.ensures ∙ ap put_number s.value ∙ writing-number _ _ _; file_after = s.file_after }

@@ -5,5 +5,5 @@ use Rattle.host.proofs.months.month_at.Goals as goal
 
 pub returns : goal.returns
 returns c =
-    rw (c.numbers.ensures, c.month_at.ensures, c.row.ensures)
-    (record { refusal = refl; start = refl; number = refl; most = number-most _ _ _ _ })
+    let told = c.month_numbers.ensures in
+    rw (told, c.month_at.ensures, c.row.ensures) (refl, number-most _ _ _ _)

@@ -4,4 +4,4 @@ use Rattle.arms.specs.Orders.{AnswerNumbers}
 use Rattle.host.proofs.orders.graha_follow_order.Goals as goal
 
 pub returns : goal.returns
-returns c = c.number.ensures ∙ ap (λ (n : AnswerNumbers). n.order) c.follow-order.ensures.meant
+returns c = c.number.ensures ∙ ap (λ (n : AnswerNumbers). n.order) c.follow.ensures.meant

@@ -7,5 +7,5 @@ use Rattle.host.proofs.orders.graha_follow_rate.Goals as goal
 pub returns : goal.returns
 returns c =
     let v = c.value.ensures in
-    let p = c.follow-run.ensures in
+    let p = c.follow.ensures in
     record { value = v ∙ ap (λ (n : AnswerNumbers). n.value) p.meant; rate = subst IsRate (sym v) p.range }

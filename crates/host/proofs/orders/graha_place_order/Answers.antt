@@ -4,4 +4,4 @@ use Rattle.arms.specs.Orders.{AnswerNumbers}
 use Rattle.host.proofs.orders.graha_place_order.Goals as goal
 
 pub returns : goal.returns
-returns c = c.number.ensures ∙ ap (λ (n : AnswerNumbers). n.order) c.place-go.ensures.meant
+returns c = c.number.ensures ∙ ap (λ (n : AnswerNumbers). n.order) c.place.ensures.meant

@@ -7,5 +7,5 @@ use Rattle.host.proofs.orders.graha_true_follow_rate.Goals as goal
 pub returns : goal.returns
 returns c =
     let v = c.value.ensures in
-    let p = c.true_follow-run.ensures in
+    let p = c.true_follow.ensures in
     record { value = v ∙ ap (λ (n : AnswerNumbers). n.value) p.meant; true_rate = subst IsTrueRate (sym v) p.range }

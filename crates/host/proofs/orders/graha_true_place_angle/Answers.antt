@@ -7,5 +7,5 @@ use Rattle.host.proofs.orders.graha_true_place_angle.Goals as goal
 pub returns : goal.returns
 returns c =
     let v = c.value.ensures in
-    let p = c.true_place-order.ensures in
+    let p = c.true_place.ensures in
     record { value = v ∙ ap (λ (n : AnswerNumbers). n.value) p.meant; angle = subst IsAngle (sym v) p.range; exact_angle = subst (ExactAngle true_seconds_on _ _) (sym v) p.exact }

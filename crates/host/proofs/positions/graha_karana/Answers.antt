@@ -8,4 +8,4 @@ use Rattle.host.proofs.OnNumbers.{on-number}
 use Rattle.host.proofs.positions.graha_karana.Goals as goal
 
 pub returns : goal.returns
-returns c = on-number (karana_at first_edition) _ c.at.ensures (c.karana.ensures ∙ first-edition karana_at _)
+returns c = c.unwrap_or.ensures ∙ on-number (karana_at first_edition) _ c.at.ensures (c.karana.ensures ∙ first-edition karana_at _)

@@ -8,4 +8,4 @@ use Rattle.host.proofs.OnNumbers.{on-number}
 use Rattle.host.proofs.positions.graha_nakshatra.Goals as goal
 
 pub returns : goal.returns
-returns c = on-number (nakshatra_at first_edition) _ c.at.ensures (c.nakshatra.ensures ∙ first-edition nakshatra_at _)
+returns c = c.unwrap_or.ensures ∙ on-number (nakshatra_at first_edition) _ c.at.ensures (c.nakshatra.ensures ∙ first-edition nakshatra_at _)

@@ -8,4 +8,4 @@ use Rattle.host.proofs.OnNumbers.{on-number}
 use Rattle.host.proofs.positions.graha_tithi.Goals as goal
 
 pub returns : goal.returns
-returns c = on-number (tithi_at first_edition) _ c.at.ensures (c.tithi.ensures ∙ first-edition tithi_at _)
+returns c = c.unwrap_or.ensures ∙ on-number (tithi_at first_edition) _ c.at.ensures (c.tithi.ensures ∙ first-edition tithi_at _)

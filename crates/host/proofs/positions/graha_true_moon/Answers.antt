@@ -8,4 +8,4 @@ use Rattle.host.proofs.OnNumbers.{on-number}
 use Rattle.host.proofs.positions.graha_true_moon.Goals as goal
 
 pub returns : goal.returns
-returns c = on-number (true_moon_at first_edition) _ c.at.ensures (c.true_moon.ensures ∙ first-edition true_moon_at _)
+returns c = c.unwrap_or.ensures ∙ on-number (true_moon_at first_edition) _ c.at.ensures (c.true_moon.ensures ∙ first-edition true_moon_at _)

@@ -8,4 +8,4 @@ use Rattle.host.proofs.OnNumbers.{on-number}
 use Rattle.host.proofs.positions.graha_yoga.Goals as goal
 
 pub returns : goal.returns
-returns c = on-number (yoga_at first_edition) _ c.at.ensures (c.yoga.ensures ∙ first-edition yoga_at _)
+returns c = c.unwrap_or.ensures ∙ on-number (yoga_at first_edition) _ c.at.ensures (c.yoga.ensures ∙ first-edition yoga_at _)

@@ -1,4 +1,7 @@
--- `graha_search` meets its contract: the library's promise at the host's query.
+-- `graha_search` meets its contract: the library's promise at the host's query, by its number.
+use mathlib.Core.Path.{ap, ◌∙◌}
+use Rattle.search.specs.Search.{search_number}
+use Rattle.search.proofs.Told.{searched-number}
 use Rattle.host.specs.HostQuery.{host_query}
 use Rattle.host.proofs.searches.graha_search.Goals as goal
 
@@ -6,4 +9,4 @@ pub returns : goal.returns
 unfolding host_query
 returns c =
     let s = rw (c.only-sun.ensures, c.only-weekdays.ensures) at c.search.ensures in
-    record { value = s.result; list_after = s.list }
+    record { value = c.search_number.ensures ∙ ap search_number s.answer ∙ searched-number _ _; list_after = s.list }

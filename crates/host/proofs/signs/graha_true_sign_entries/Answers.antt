@@ -1,11 +1,10 @@
--- `graha_true_sign_entries` meets its contract: the library's promise.
-use mathlib.Core.Path.{ap}
-use Rattle.zodiac.specs.declared.Listing.{Listing}
-use Rattle.zodiac.specs.Zodiac.{listing_of}
+-- `graha_true_sign_entries` meets its contract: the library's promise, by its number.
+use mathlib.Core.Path.{ap, ◌∙◌}
+use Rattle.entries.specs.Told.{put_number}
+use Rattle.zodiac.proofs.Answers.{listing-number}
 use Rattle.host.proofs.signs.graha_true_sign_entries.Goals as goal
 
 pub returns : goal.returns
-unfolding listing_of
 returns c =
     let s = c.entries_by.ensures in
-    record { value = ap (λ (found : Listing). found.refusal) s.value; list_after = s.list_after }
+    record { value = c.put_number.ensures ∙ ap put_number s.value ∙ listing-number _ _ _ _; list_after = s.list_after }

@@ -1,16 +1,17 @@
 -- `month_at` meets its contract: refused, too short a list, or the entry found.
 use mathlib.Core.Path.{sym, ap, ◌∙◌}
-use Rattle.lunar_months.specs.declared.MonthAt.TheVariants.{Refused}
+use Rattle.std.specs.Prelude.{Ok}
+use Rattle.std.proofs.lemmas.Result.{err_from_is_err_and}
 use Rattle.lunar_months.proofs.Answers.{question-refused, question-short, question-answered}
 use Rattle.lunar_months.proofs.Months.month_at.Goals as goal
 
-pub returns-then-refusal-ne-NONE : goal.returns-then-refusal-ne-NONE
-returns-then-refusal-ne-NONE c =
-    let q = c.question_refusal-refusal.ensures in
-    ap (λ r. Refused r 0) q ∙ sym (question-refused _ _ _ _ (λ z. c.if-refusal-ne-NONE.true (q ∙ z)))
+pub returns-in_err-check_question : goal.returns-in_err-check_question
+returns-in_err-check_question c =
+    let p = err_from_is_err_and c.from_residual.result c.from_residual.ensures.1 in
+    rw (p.1, p.2) (sym (question-refused _ _ _ _ c.in_err-check_question.ensures))
 
 pub returns-then-list-self : goal.returns-then-list-self
-returns-then-list-self c = sym (question-short _ _ _ _ (sym c.question_refusal-refusal.ensures ∙ c.if-refusal-ne-NONE.false) c.if-list-self.true)
+returns-then-list-self c = sym (question-short _ _ _ _ c.in_ok-check_question.ensures c.if-list-self.true)
 
 pub returns : goal.returns
-returns c = c.last_entry.ensures ∙ sym (question-answered _ _ _ _ (sym c.question_refusal-refusal.ensures ∙ c.if-refusal-ne-NONE.false) c.if-list-self.false)
+returns c = ap Ok c.last_entry.ensures ∙ sym (question-answered _ _ _ _ c.in_ok-check_question.ensures c.if-list-self.false)

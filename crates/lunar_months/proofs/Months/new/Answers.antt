@@ -3,10 +3,10 @@ use mathlib.Core.Path.{sym, ◌∙◌}
 use Rattle.lunar_months.specs.Rows.{new_row}
 use Rattle.lunar_months.proofs.Months.new.Goals as goal
 
-pub returns-then-not-is_edition : goal.returns-then-not-is_edition
+pub returns-then-is_edition : goal.returns-then-is_edition
 unfolding new_row
-returns-then-not-is_edition c = rw (sym c.is_edition.ensures ∙ c.if-not-is_edition.true) c.refused.ensures
+returns-then-is_edition c = rw (sym c.is_edition.ensures ∙ c.if-is_edition.true)
 
-pub returns : goal.returns
+pub returns-else-is_edition : goal.returns-else-is_edition
 unfolding new_row
-returns c = rw (sym c.is_edition.ensures ∙ c.if-not-is_edition.false)
+returns-else-is_edition c = rw (sym c.is_edition.ensures ∙ c.if-is_edition.false)

@@ -4,7 +4,7 @@ use Rattle.query.proofs.Conditions.{first-has, second-has}
 use Rattle.query.proofs.BodyArcs.have.Goals as goal
 
 pub returns-then-has : goal.returns-then-has
-returns-then-has c = first-has _ _ (sym c.has.ensures ∙ c.if-has.true)
+returns-then-has c = c.if-has.true ∙ first-has _ _ (sym c.has.ensures ∙ c.if-has.true)
 
-pub returns : goal.returns
-returns c = c.has-2.ensures ∙ second-has _ _ (sym c.has.ensures ∙ c.if-has.false)
+pub returns-else-has : goal.returns-else-has
+returns-else-has c = c.has-else-has.ensures ∙ second-has _ _ (sym c.has.ensures ∙ c.if-has.false)

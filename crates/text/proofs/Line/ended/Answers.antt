@@ -9,4 +9,4 @@ returns-then-self-lt-CAPACITY c = rw (lt-ltb _ _ c.if-self-lt-CAPACITY.true) c.b
 
 pub returns : goal.returns
 unfolding ended
-returns c = rw (le-ltb _ _ c.if-self-lt-CAPACITY.false) c.refusal_line.ensures.made
+returns c = rw (le-ltb _ _ c.if-self-lt-CAPACITY.false) (rw c.number.ensures at c.refusal_line.ensures.made)

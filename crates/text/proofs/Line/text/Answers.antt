@@ -5,17 +5,17 @@ use Rattle.text.proofs.Putting.{putting-fits, putting-full, putting-end}
 use Rattle.text.proofs.Line.text.Goals as goal
 use Rattle.text.proofs.Line.text.Goals.{then-len-lt-CAPACITY, else-len-lt-CAPACITY}
 
-pub loop-i-init : goal.loop-i-init
-loop-i-init c = refl
+pub loop-b-init : goal.loop-b-init
+loop-b-init c = refl
 
-pub loop-i-preserved : goal.loop-i-preserved
-loop-i-preserved c =
-    let inv = c.loop-i.invariant in
-    let more = c.loop-i-test.true in
+pub loop-b-preserved : goal.loop-b-preserved
+loop-b-preserved c =
+    let inv = c.loop-b.invariant in
+    let more = c.loop-b-test.true in
     elim c.if-len-lt-CAPACITY.branch [
       | then-len-lt-CAPACITY w ↦ rw (w.bytes-is, w.len-is) (putting-fits _ _ _ _ inv more (omega arith))
       | else-len-lt-CAPACITY w ↦ rw (w.bytes-is, w.len-is) (putting-full _ _ _ _ inv more (omega arith))
     ]
 
 pub returns : goal.returns
-returns c = putting-end _ _ _ _ c.loop-i.invariant c.loop-i-test.false
+returns c = putting-end _ _ _ _ c.loop-b.invariant c.loop-b-test.false

@@ -1,8 +1,0 @@
--- `BodyArcs::given` meets its contract: the first decides, else the second.
-use Rattle.query.proofs.BodyArcs.given.Goals as goal
-
-pub returns-then-self : goal.returns-then-self
-returns-then-self c = rw c.if-self.true
-
-pub returns-else-self : goal.returns-else-self
-returns-else-self c = rw c.if-self.false

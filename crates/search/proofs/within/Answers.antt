@@ -1,0 +1,1 @@
+-- `within` meets its contract: the weekday decides, then what else is asked.
