@@ -12,8 +12,8 @@ edit is made in a copy of the crates, `rt check` is run there, and what it says 
   that the prover does not come to its goals) is tried alone, and then any fact of the function will do;
 - where the edit changes what a function promises too, or brings a new one, it may be proved: then a fact fails in a
   function that names it, or in one that is called beside it;
-- where it changes a constant (or a struct, an enum or a trait), a fact fails in the proof of a function that names it,
-  a constant made of it, or a type whose own the function is; where a meaning or a law, in some proof.
+- where it changes a constant (or a struct), a fact fails in the proof of a function that names it or a constant made of
+  it; where a meaning or a law, in some proof. An edit of an enum or a trait is none.
 
 A proof that no longer fits the code (a name that is not there, a goal of another name, a step that hangs on a refused
 one) is no fact. A goal is named after the code (`returns-then-number-le-LAST`), so an edit keeps such names: a goal of
@@ -41,10 +41,11 @@ COPIES = pathlib.Path(tempfile.gettempdir()) / f"check-edits-{hashlib.sha256(str
 PARTS = ("src", "specs", "proofs")
 ITEM = re.compile(r'( *)(?:pub )?(?:extern "C" )?(fn|const|struct|enum|trait|impl|mod)(?:<[^>]*>)? (\w+)')
 IMPL = re.compile(r" *impl(?:<[^>]*>)? (\w+)(?:<(\w+)>)? for (\w+)")
-TYPES = ("struct", "enum", "trait")
 ERROR = re.compile(r"(?:\./)?(proofs/\S+\.antt):\d+:\d+: error: (?:`(\S+)`: )?(.*)")
 FUNCTION = re.compile(r"fn (\S+): (proved|not proved|no proof)(.*)")
-OPEN = re.compile(r"note: src/\S+: (?:it is not proved that .*?|`search` found no proof) \(`([^\s`]+)`\)(.*)")
+# A goal for which an answer's search found no proof is a fact only where values are found at which it is false.
+SOUGHT = "`search` found no proof"
+OPEN = re.compile(rf"note: src/\S+: (?:it is not proved that .*?|{SOUGHT}) \(`([^\s`]+)`\)(.*)")
 FALSE = "allow values at which this goal is false"
 # What the prover says where a proof no longer fits the code.
 UNFIT = re.compile(r"can be named from here|has no field|\(nearest: \.|was not admitted|not in scope|is no module|no module is found|which was rejected|differ (only )?where one has `\S+\.Lts\.[A-Z]")
@@ -75,7 +76,7 @@ def items(crate, sources):
             indent, kind, name = opened[-1] if opened else ("", "", "")
             if kind == "fn":
                 name = "::".join([crate, *module, *(part for _, _, part in opened)])
-            key = name if kind == "fn" else f"{kind} {name}" if kind in ("const", *TYPES) else ""
+            key = name if kind == "fn" else f"{kind} {name}" if kind in ("const", "struct", "enum", "trait") else ""
             texts[key] = texts.get(key, "") + line.rstrip() + "\n"
             whole = start and (line.endswith("}") and line.count("{") == line.count("}") or kind == "struct" and line.endswith(";"))
             if opened and (line.endswith(";") if kind == "const" else whole or line == indent + "}"):
@@ -127,12 +128,6 @@ def made(texts, changes):
     return texts
 
 
-def cites(texts, user, name):
-    """Whether a function names an item, or is one of that type's own."""
-    last = re.split("::| ", name)[-1]
-    return re.search(rf"\b{last}\b", texts.get(user, "")) or " " in name and last in user.split("::")
-
-
 def of_part(texts, *parts):
     return {path: text for path, text in texts.items() if path.startswith(tuple(f"{part}/" for part in parts))}
 
@@ -164,10 +159,10 @@ def fails(log):
     for line in log:
         goal, function = OPEN.fullmatch(line), FUNCTION.fullmatch(line)
         if goal:
-            left.append((goal[1], FALSE in goal[2]))
+            left.append((goal[1], FALSE in goal[2], SOUGHT in line))
         elif function:
             place, said[function[1]] = place_of(function[1]), function[2]
-            found |= {(place, fact) for fact, is_false in left if is_false or place not in unfit}
+            found |= {(place, fact) for fact, is_false, is_sought in left if is_false or not is_sought and place not in unfit}
             left = []
     return found, said
 
@@ -187,7 +182,7 @@ def judged(crate, texts, edited, log):
     own = {name: place_of(name) for name in {*before, *after} if name.startswith(crate + "::")}
     found, apart = {}, []
     for name in wrong:
-        if name.startswith(TYPES) and " " in name or said.get(name) == "proved" and clauses(before.get(name, "")) != clauses(after[name]):
+        if name.startswith("struct ") or said.get(name) == "proved" and clauses(before.get(name, "")) != clauses(after[name]):
             apart.append(name)
         elif name in own and said.get(name, "proved") == "proved":
             found[name] = f"{name} is not refused"
@@ -200,9 +195,9 @@ def judged(crate, texts, edited, log):
                 found[name] = f"no fact fails in a function that names {name[6:]} and stands as it was"
     reached = [name for name in own if own[name] in places]
     for user in reached:
-        reached += [name for name in apart if name not in reached and cites(after, user, name)]
+        reached += [name for name in apart if name not in reached and re.search(rf"\b{re.split('::| ', name)[-1]}\b", after.get(user, ""))]
     for name in apart:
-        beside = [user for user in own if cites(after, user, name) and user != name]
+        beside = [user for user in own if re.search(rf"\b{re.split('::| ', name)[-1]}\b", after.get(user, "")) and user != name]
         called = [callee for callee in reached if any(re.search(rf"\b{callee.split('::')[-1]}\(", after[user]) for user in beside)]
         if name not in reached and not called:
             found[name] = f"no fact fails in a function that names {name} or is called beside it"
@@ -210,8 +205,9 @@ def judged(crate, texts, edited, log):
     meant = of_part(texts, "specs", "proofs") != of_part(edited, "specs", "proofs")
     if meant and not places - altered:
         found["meaning"] = "no fact fails in a proof of what stands as it was"
-    if "" in wrong or not (wrong or meant):
-        found[""] = "it changes something else than functions, constants and types" if "" in wrong else "it changes nothing"
+    others = [name for name in wrong if name.startswith(("enum ", "trait ")) or not name]
+    if others or not (wrong or meant):
+        found[""] = "it changes something else than functions, constants and structs" if others else "it changes nothing"
     shown = {name: {word for place, fact in failing if place == own.get(name) for word in names_of(place, fact)} for name in wrong if name not in apart}
     if meant:
         shown["meaning"] = {word for place, fact in failing if place not in altered for word in names_of(place, fact)}

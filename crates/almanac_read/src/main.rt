@@ -1,6 +1,7 @@
 // Reads an almanac file from standard input, of any length, and prints its days as a month's sheet has them.
 #![tactic(auto)]
 
+ghost use Rattle.std.specs.Prelude.{◌≡◌};
 ghost use Rattle.output.specs.Output.{AllWritten};
 ghost use Rattle.almanac_sheet.specs.AlmanacSheets.{reading_lines};
 
@@ -52,11 +53,18 @@ impl Sheet for ReadingSheet {
     }
 }
 
-// The only way to print.
+// The only way to print. By what it requires the sheet is the reading's.
+fn print_lines(reading: Result<Reading, Refusal>, sheet: &ReadingSheet) -> Result<usize, NotWritten>
+    requires { reading_lines sheet.now.reading ≡ reading_lines reading }
+    ensures { AllWritten (reading_lines reading) result }
+{
+    output::print_sheet(sheet)
+}
+
 fn print_reading(reading: Result<Reading, Refusal>) -> Result<usize, NotWritten>
     ensures { AllWritten (reading_lines reading) result }
 {
-    output::print_sheet(&ReadingSheet { reading })
+    print_lines(reading, &ReadingSheet { reading })
 }
 
 // Nothing is printed before the last block is seen.

@@ -27,7 +27,24 @@ impl Refusal {
     pub fn number(self) -> u32
         ensures { result ≡ refusal_number self }
     {
-        self as u32
+        match self {
+            Refusal::NoSuchDate => NO_SUCH_DATE,
+            Refusal::OutOfRange => OUT_OF_RANGE,
+            Refusal::BadInput => BAD_INPUT,
+            Refusal::NoSuchWeekday => NO_SUCH_WEEKDAY,
+            Refusal::LastBeforeFirst => LAST_BEFORE_FIRST,
+            Refusal::BadCondition => BAD_CONDITION,
+            Refusal::ListTooShort => LIST_TOO_SHORT,
+            Refusal::NoExtraMonth => NO_EXTRA_MONTH,
+            Refusal::BadLength => BAD_LENGTH,
+            Refusal::BadChecksum => BAD_CHECKSUM,
+            Refusal::BadIndex => BAD_INDEX,
+            Refusal::NotZero => NOT_ZERO,
+            Refusal::BadDay => BAD_DAY,
+            Refusal::BadEdition => BAD_EDITION,
+            Refusal::BadLine => BAD_LINE,
+            Refusal::NoSuchBody => NO_SUCH_BODY,
+        }
     }
 }
 

@@ -1,6 +1,7 @@
 // The engravers' program: reads a day and prints its plate.
 #![tactic(auto)]
 
+ghost use Rattle.std.specs.Prelude.{◌≡◌};
 ghost use Rattle.output.specs.Output.{AllWritten};
 ghost use Rattle.plate.specs.Plates.{plate_lines};
 
@@ -25,11 +26,18 @@ impl<'a> Sheet for Plate<'a> {
     }
 }
 
-// The only way to print.
+// The only way to print. By what it requires the sheet is the input's.
+fn print_lines(input: &[u8], sheet: &Plate) -> Result<usize, NotWritten>
+    requires { plate_lines sheet.now.input.now ≡ plate_lines input.now }
+    ensures { AllWritten (plate_lines input.now) result }
+{
+    output::print_sheet(sheet)
+}
+
 fn print_plate(input: &[u8]) -> Result<usize, NotWritten>
     ensures { AllWritten (plate_lines input.now) result }
 {
-    output::print_sheet(&Plate { input })
+    print_lines(input, &Plate { input })
 }
 
 // A good input has at most seven bytes: the eighth shows a longer one.

@@ -26,3 +26,7 @@ unfoldable pub length_told : Result ℕ NotPut → ℕ
 length_told (Ok n) = n
 length_told (Err (Refused _)) = 0
 length_told (Err (TooShort n)) = n
+
+-- the number behind the length, which is 0 of every answer that is not a search's
+abbrev pub third_told : Result ℕ NotPut → ℕ
+third_told _ = 0
