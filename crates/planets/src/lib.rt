@@ -37,48 +37,37 @@ const SPACING: u32 = CIRCLE / 24;
 // A tenth of a degree, the unit of the tables.
 const TENTH: u32 = CIRCLE / 3600;
 
-// What paper 02's tables have of a planet, each row with a 0 behind the last entry: it counts for nothing, since no arc
-// goes past that entry.
+// Paper 02's tables, a row for each planet, with a 0 behind the last entry: it counts for nothing, since no arc goes
+// past that entry.
+const SIGHRA: [[u16; 14]; PLANETS] = [
+    [
+        0, 58, 117, 174, 228, 279, 325, 365, 393, 400, 368, 249, 0, 0,
+    ],
+    [0, 41, 81, 117, 150, 178, 199, 212, 212, 195, 155, 89, 0, 0],
+    [0, 25, 47, 68, 85, 98, 106, 108, 102, 89, 66, 36, 0, 0],
+    [
+        0, 63, 126, 186, 246, 302, 354, 402, 440, 461, 443, 326, 0, 0,
+    ],
+    [0, 15, 28, 39, 48, 54, 57, 57, 53, 45, 33, 18, 0, 0],
+];
+
+const MANDA: [[u16; 8]; PLANETS] = [
+    [0, 29, 57, 85, 109, 124, 130, 0],
+    [0, 12, 21, 28, 33, 35, 36, 0],
+    [0, 14, 27, 39, 48, 55, 57, 0],
+    [0, 6, 11, 13, 14, 15, 15, 0],
+    [0, 19, 40, 60, 77, 89, 93, 0],
+];
+
+const APOGEES: [u32; PLANETS] = [432000, 756000, 648000, 324000, 864000];
+
+// What the tables have of a planet.
 #[derive(Clone, Copy)]
 struct Row {
     sighra: [u16; 14],
     manda: [u16; 8],
     apogee: u32,
 }
-
-const MARS: Row = Row {
-    sighra: [
-        0, 58, 117, 174, 228, 279, 325, 365, 393, 400, 368, 249, 0, 0,
-    ],
-    manda: [0, 29, 57, 85, 109, 124, 130, 0],
-    apogee: 432000,
-};
-
-const MERCURY: Row = Row {
-    sighra: [0, 41, 81, 117, 150, 178, 199, 212, 212, 195, 155, 89, 0, 0],
-    manda: [0, 12, 21, 28, 33, 35, 36, 0],
-    apogee: 756000,
-};
-
-const JUPITER: Row = Row {
-    sighra: [0, 25, 47, 68, 85, 98, 106, 108, 102, 89, 66, 36, 0, 0],
-    manda: [0, 14, 27, 39, 48, 55, 57, 0],
-    apogee: 648000,
-};
-
-const VENUS: Row = Row {
-    sighra: [
-        0, 63, 126, 186, 246, 302, 354, 402, 440, 461, 443, 326, 0, 0,
-    ],
-    manda: [0, 6, 11, 13, 14, 15, 15, 0],
-    apogee: 324000,
-};
-
-const SATURN: Row = Row {
-    sighra: [0, 15, 28, 39, 48, 54, 57, 57, 53, 45, 33, 18, 0, 0],
-    manda: [0, 19, 40, 60, 77, 89, 93, 0],
-    apogee: 864000,
-};
 
 // A row's size at an arc: the straight line between two entries, each counted by how near it is. (Fifteen degrees have
 // 150 times the seconds of a tenth of a degree.)
@@ -170,18 +159,59 @@ fn mean_on(body: Body, day: Day) -> u32
     longitudes::mean_longitude(body, day).unwrap().seconds
 }
 
-// A case for each planet, so that the compiler has its rows and its motion as constants.
+// A case for each planet, so that the compiler has its rows and its motion as constants. (A constant's value cannot be
+// taken out of a table, so each `Row` is written where it is lent.)
 fn true_on(planet: Planet, day: Day) -> u32
     requires { in_range day ≡ true }
     ensures { result ≡ true_planet_at (planet_number planet) day }
 {
     let sun = mean_on(Body::Sun, day);
     match planet {
-        Planet::Mars => outer(&MARS, sun, mean_on(Body::Mars, day)),
-        Planet::Mercury => true_planet(&MERCURY, sun, mean_on(Body::MercuryAnomaly, day)),
-        Planet::Jupiter => outer(&JUPITER, sun, mean_on(Body::Jupiter, day)),
-        Planet::Venus => true_planet(&VENUS, sun, mean_on(Body::VenusAnomaly, day)),
-        Planet::Saturn => outer(&SATURN, sun, mean_on(Body::Saturn, day)),
+        Planet::Mars => outer(
+            &Row {
+                sighra: SIGHRA[0],
+                manda: MANDA[0],
+                apogee: APOGEES[0],
+            },
+            sun,
+            mean_on(Body::Mars, day),
+        ),
+        Planet::Mercury => true_planet(
+            &Row {
+                sighra: SIGHRA[1],
+                manda: MANDA[1],
+                apogee: APOGEES[1],
+            },
+            sun,
+            mean_on(Body::MercuryAnomaly, day),
+        ),
+        Planet::Jupiter => outer(
+            &Row {
+                sighra: SIGHRA[2],
+                manda: MANDA[2],
+                apogee: APOGEES[2],
+            },
+            sun,
+            mean_on(Body::Jupiter, day),
+        ),
+        Planet::Venus => true_planet(
+            &Row {
+                sighra: SIGHRA[3],
+                manda: MANDA[3],
+                apogee: APOGEES[3],
+            },
+            sun,
+            mean_on(Body::VenusAnomaly, day),
+        ),
+        Planet::Saturn => outer(
+            &Row {
+                sighra: SIGHRA[4],
+                manda: MANDA[4],
+                apogee: APOGEES[4],
+            },
+            sun,
+            mean_on(Body::Saturn, day),
+        ),
     }
 }
 
