@@ -10,14 +10,14 @@ use borrow.Author.Tests.{eqb-true}
 use Rattle.std.specs.Prelude.{Ok, Err}
 use Rattle.std.specs.Result.{is_ok}
 use Rattle.days.specs.declared.Day.{Day}
-use Rattle.days.specs.declared.refusal.Refusal.TheVariants.{BadEdition}
+use Rattle.days.specs.declared.refusal.Refusal.TheVariants.{OutOfRange, BadEdition}
 use Rattle.days.specs.Days.{in_range, answer_on}
-use Rattle.days.proofs.Laws.{given, told}
+use Rattle.days.proofs.Laws.{given, refused, told}
 use Rattle.longitudes.specs.Longitudes.{circle, longitude_at}
 use Rattle.longitudes.proofs.Table.{longitude-small}
 use Rattle.panchanga.specs.declared.Edition.TheVariants.{First, Second}
 use Rattle.panchanga.specs.TrueLongitudes.{first_edition, second_edition, is_edition}
-use Rattle.panchanga.specs.OnDays.{true_sun_at, true_moon_at, tithi_at, nakshatra_at, yoga_at, karana_at, panchanga_at, panchanga_of, panchanga_by, tithi_by, in_edition}
+use Rattle.panchanga.specs.OnDays.{true_sun_at, true_moon_at, tithi_at, nakshatra_at, yoga_at, karana_at, lights_at, lights_of, panchanga_at, panchanga_of, panchanga_by, tithi_by, in_edition}
 use Rattle.panchanga.specs.Parts.{edition_number, the_edition}
 
 -- both tests
@@ -38,6 +38,14 @@ module _ {A : Type 0} (f : ℕ → Day → A) (e : ℕ) (d : Day) where
   unfolding in_edition
   by-no-edition t = rw t
 
+  pub not-answered : (Accepted e d → ⊥) → in_edition f e d ≡ Err (cond (is_edition e) OutOfRange BadEdition)
+  not-answered r = go (is_edition e) (in_range d) refl refl
+    where
+      go : (t u : Bool) → is_edition e ≡ t → in_range d ≡ u → in_edition f e d ≡ Err (cond t OutOfRange BadEdition)
+      go true true et eu = absurd (r (record { edition = et; range = eu }))
+      go true false et eu = by-edition et ∙ refused (f e) d eu
+      go false u et eu = by-no-edition et
+
   -- what is not refused is of an edition and a day in range
   pub accepted-for : {a : A} → Ok a ≡ in_edition f e d → Accepted e d × (a ≡ f e d)
   accepted-for {a} h = go (is_edition e) refl
@@ -47,6 +55,13 @@ module _ {A : Type 0} (f : ℕ → Day → A) (e : ℕ) (d : Day) where
       go false t = absurd (false≢true (sym (ap is_ok (h ∙ by-no-edition t))))
 
 module _ (e : ℕ) (d : Day) where
+  -- both lights, and the elements together
+  pub lights-refused : (Accepted e d → ⊥) → lights_of e d ≡ Err (cond (is_edition e) OutOfRange BadEdition)
+  lights-refused = not-answered lights_at e d
+
+  pub elements-refused : (Accepted e d → ⊥) → panchanga_of e d ≡ Err (cond (is_edition e) OutOfRange BadEdition)
+  elements-refused = not-answered panchanga_at e d
+
   -- by the day's mean Sun, Moon and apogee
   whole : (b : ℕ) → longitude_at b d % circle ≡ longitude_at b d
   whole b = omega (arith, longitude-small b d)
