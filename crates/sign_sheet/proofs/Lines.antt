@@ -106,18 +106,18 @@ line-of-entry sun n list (suc k) h l =
     let front : 0 + k ≡ k = omega arith in
     rw (entered-lines sun n list, back) (line-next _ _ k ∙ entries_at sun list 0 n k (omega arith) ∙ ap (λ (j : ℕ). listed_line sun (entry_at list j)) front)
 
-module _ (sun : Sun) (list : List ℕ) (k : ℕ) where
-  pub none-due : {r : Refusal} → Err r ≡ entry_at list k → listed_line sun (entry_at list k) ≡ []
+module _ (sun : Sun) (due : Result ℕ Refusal) where
+  pub none-due : {r : Refusal} → Err r ≡ due → listed_line sun due ≡ []
   unfolding listed_line
   none-due e = rw (← e)
 
-  pub no-day-due : {due : ℕ} → Ok due ≡ entry_at list k → last_day < due → listed_line sun (entry_at list k) ≡ []
+  pub no-day-due : {n : ℕ} → Ok n ≡ due → last_day < n → listed_line sun due ≡ []
   unfolding listed_line
-  no-day-due {due} e h = rw (← e, lt-leb due last_day h)
+  no-day-due {n} e h = rw (← e, lt-leb n last_day h)
 
-  pub day-due : {due : ℕ} → Ok due ≡ entry_at list k → due ≤ last_day → listed_line sun (entry_at list k) ≡ sign_line sun due
+  pub day-due : {n : ℕ} → Ok n ≡ due → n ≤ last_day → listed_line sun due ≡ sign_line sun n
   unfolding listed_line
-  day-due {due} e h = rw (← e, le-leb due last_day h)
+  day-due {n} e h = rw (← e, le-leb n last_day h)
 
 -- ---- a line is put together from its parts, and it fits
 pub sign-there : (sun : Sun) (n : ℕ) → n ≤ last_day → sign_of sun (pair_at n) ≡ Ok (sign_on sun n)

@@ -51,7 +51,7 @@ module _ (sun : Sun) (first last : ℕ) (o : Ordered first last) (list : List �
   entry : (i : ℕ) → i < length days → listed_line sun (entry_at (with_entries days list) i) ≡ sign_line sun (get_or days i 0)
   entry i h =
       let day = (entered_only sun first last _ o.ordered (has-at i days h)).to_last in
-      day-due sun (with_entries days list) i (sym (entered-read sun first last o.ordered list i o.ends fits h)) (omega (arith, day, o.ends))
+      day-due sun _ (sym (entered-read sun first last o.ordered list i o.ends fits h)) (omega (arith, day, o.ends))
 
   all-entered : listing_lines sun (listing_of sun first last (capacity list)) (entries_after sun first last list) ≡ sign_heading ∷ map (sign_line sun) days
   all-entered =
