@@ -20,7 +20,7 @@ use Rattle.date_lines.specs.declared.Kind.{Kind}
 use Rattle.date_lines.specs.declared.NotConverted.{NotConverted}
 use Rattle.date_lines.specs.Lines.{line_read}
 use Rattle.date_lines.specs.Texts.{lines_of, first_refusal, good_lines, days_of, converted, refused_line, too_short, lines_read, limited_read, with_room, list_answer, list_after}
-use Rattle.date_lines.proofs.Splitting.{no_lines}
+use Rattle.date_lines.proofs.Splitting.{no_lines, some_line}
 
 module _ (kind : Kind) (l : List ℕ) (ls : List (List ℕ)) where
   module _ {n : ℕ} (e : Ok n ≡ line_read kind l) where
@@ -114,36 +114,42 @@ module _ (kind : Kind) (most : ℕ) (text : List ℕ) where
         empty zero = none-refused kind
         empty (suc n) = none-refused kind
 
-    module _ (line more : List ℕ) (split : lines_of rest ≡ line ∷ lines_of more) where
-      pub passed-many : most < lines + 1 → refused_line ListTooShort (lines + 1) ≡ limited_read kind most (lines_of text)
-      passed-many m =
-          let same : lines ≡ most = omega (arith, p.limit) in
-          let zero_left : most - lines ≡ 0 = omega arith in
-          let e : first_refusal kind (take most (lines_of text)) ≡ Ok tt = ap (first_refusal kind) (sym start) ∙ p.refusal ∙ ap (λ (n : ℕ). first_refusal kind (take n (lines_of rest))) zero_left ∙ none-refused kind in
-          let long : most < length (lines_of text) = omega (arith, p.count, ap length split) in
-          ap (λ (n : ℕ). refused_line ListTooShort (n + 1)) same ∙ answer-many kind most (lines_of text) e long
+    pub passed-many : lines ≡ most → 0 < length rest → refused_line ListTooShort (lines + 1) ≡ limited_read kind most (lines_of text)
+    passed-many same some =
+        let zero_left : most - lines ≡ 0 = omega arith in
+        let e : first_refusal kind (take most (lines_of text)) ≡ Ok tt = ap (first_refusal kind) (sym start) ∙ p.refusal ∙ ap (λ (n : ℕ). first_refusal kind (take n (lines_of rest))) zero_left ∙ none-refused kind in
+        let long : most < length (lines_of text) = omega (arith, p.count, some_line rest some) in
+        ap (λ (n : ℕ). refused_line ListTooShort (n + 1)) same ∙ answer-many kind most (lines_of text) e long
 
-      module _ (m : lines + 1 ≤ most) where
-        one : ahead rest lines ≡ line ∷ ahead more (lines + 1)
-        one =
-            let left : most - lines ≡ suc (most - (lines + 1)) = omega arith in
-            rw (left, split)
+    module _ (line more : List ℕ) (split : lines_of rest ≡ line ∷ lines_of more) (m : lines + 1 ≤ most) where
+      one : ahead rest lines ≡ line ∷ ahead more (lines + 1)
+      one =
+          let left : most - lines ≡ suc (most - (lines + 1)) = omega arith in
+          rw (left, split)
 
-        pub passed-bad : {r : Refusal} → Err r ≡ line_read kind line → refused_line r (lines + 1) ≡ limited_read kind most (lines_of text)
-        passed-bad {r} e =
-            let f : first_refusal kind (take most (lines_of text)) ≡ Err r = ap (first_refusal kind) (sym start) ∙ p.refusal ∙ ap (first_refusal kind) one ∙ bad-refusal kind line _ e in
-            let g : good_lines kind (take most (lines_of text)) ≡ lines = ap (good_lines kind) (sym start) ∙ p.good ∙ omega (arith, ap (good_lines kind) one, bad-count kind line (ahead more (lines + 1)) e) in
-            answer-refused kind most (lines_of text) r (lines + 1) f (omega arith)
+      pub passed-bad : {r : Refusal} → Err r ≡ line_read kind line → refused_line r (lines + 1) ≡ limited_read kind most (lines_of text)
+      passed-bad {r} e =
+          let f : first_refusal kind (take most (lines_of text)) ≡ Err r = ap (first_refusal kind) (sym start) ∙ p.refusal ∙ ap (first_refusal kind) one ∙ bad-refusal kind line _ e in
+          let g : good_lines kind (take most (lines_of text)) ≡ lines = ap (good_lines kind) (sym start) ∙ p.good ∙ omega (arith, ap (good_lines kind) one, bad-count kind line (ahead more (lines + 1)) e) in
+          answer-refused kind most (lines_of text) r (lines + 1) f (omega arith)
 
-        pub passed-good : {n : ℕ} → Ok n ≡ line_read kind line → length more < length rest → Passed more (lines + 1)
-        passed-good e s =
-            record {
-              few = omega (arith, p.few);
-              limit = m;
-              refusal = p.refusal ∙ ap (first_refusal kind) one ∙ good-refusal kind line _ e;
-              good = omega (arith, p.good, ap (good_lines kind) one, good-count kind line (ahead more (lines + 1)) e);
-              count = omega (arith, p.count, ap length split);
-            }
+      pub passed-good : {n : ℕ} → Ok n ≡ line_read kind line → length more < length rest → Passed more (lines + 1)
+      passed-good e s =
+          record {
+            few = omega (arith, p.few);
+            limit = m;
+            refusal = p.refusal ∙ ap (first_refusal kind) one ∙ good-refusal kind line _ e;
+            good = omega (arith, p.good, ap (good_lines kind) one, good-count kind line (ahead more (lines + 1)) e);
+            count = omega (arith, p.count, ap length split);
+          }
+
+-- so many lines and bytes are left
+pub record Left (most count : ℕ) (text rest : List ℕ) (lines seen : ℕ) : Type 0 where
+  pub lines_left : lines + count ≡ most
+  pub bytes_left : seen + length rest ≡ length text
+
+pub left_none : (most count : ℕ) (text rest : List ℕ) → count ≡ most → rest ≡ text → Left most count text rest 0 0
+left_none most count text rest m e = record { lines_left = omega arith; bytes_left = omega (arith, ap length e) }
 
 -- the days put, from an entry on
 module _ (kind : Kind) (text list : List ℕ) where

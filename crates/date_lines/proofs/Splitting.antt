@@ -42,6 +42,9 @@ unfolding lines_of
 no_lines [] h = refl
 no_lines (b ∷ bs) h = absurd (omega arith)
 
+pub some_line : (text : List ℕ) → 0 < length text → 0 < length (lines_of text)
+some_line text h = omega (arith, ap length (split text h))
+
 -- a text cut behind its first newline
 first_at : (bs : List ℕ) (i : ℕ) → IsFirstMatchOrLen (λ b. eqb b newline) bs i → first_length bs ≡ min (i + 1) (length bs)
 unfolding first_length

@@ -137,22 +137,23 @@ fn read_line(kind: Kind, line: &[u8]) -> Result<u32, Refusal>
 }
 
 // Reads the lines, of which there may be so many at most, up to the first that is refused, and keeps their days beside,
-// as many as there is room for.
+// as many as there is room for. What stands behind so many lines is not looked at.
 fn read_lines(kind: Kind, text: &[u8], most: usize, kept: &mut [u8]) -> Result<usize, NotConverted>
     ensures value { result ≡ limited_read kind most (lines_of text.now) }
     ensures kept_after { is_ok result ≡ true → kept.new ≡ with_entries_from kept.old 0 (days_of kind (lines_of text.now)) }
 {
     let mut lines: usize = 0;
-    for line in text.split_inclusive(|byte| *byte == b'\n') {
-        let place = lines + 1;
-        if most < place {
-            return Err(NotConverted::AtLine(Refusal::ListTooShort, place));
-        }
+    let mut seen: usize = 0;
+    for line in text.split_inclusive(|byte| *byte == b'\n').take(most) {
         match read_line(kind, line) {
             Ok(day) => entries::put_entry(kept, lines, day),
-            Err(refusal) => return Err(NotConverted::AtLine(refusal, place)),
+            Err(refusal) => return Err(NotConverted::AtLine(refusal, lines + 1)),
         }
-        lines = place;
+        lines += 1;
+        seen += line.len();
+    }
+    if seen < text.len() {
+        return Err(NotConverted::AtLine(Refusal::ListTooShort, lines + 1));
     }
     Ok(lines)
 }
