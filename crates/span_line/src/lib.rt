@@ -77,8 +77,7 @@ fn is_marked(body: &[u8], mark: &[u8]) -> bool
     ensures { result ≡ is_marked mark.now body.now }
 {
     let third = first_word(after_words(body, 2));
-    let more = first_word(after_words(body, 3));
-    place_in(mark, third) == 0 && more.is_empty()
+    place_in(mark, third) == 0 && first_word(after_words(body, 3)).is_empty()
 }
 
 fn not_marked(span: Result<Span, Refusal>) -> Marked
