@@ -239,8 +239,11 @@ fn put_line(number: usize, line: &[u8], buffer: &mut [u8], at: usize) -> usize
 fn asked_with(asked: bool, line: &[u8]) -> bool
     ensures { result ≡ asked || asks line.now }
 {
+    if asked {
+        return true;
+    }
     let keyword = page::keyword_of(first_word(up_to(line, b'#')));
-    asked || keyword < page::PRINT && keyword != page::SPAN && keyword != page::EDITION
+    keyword < page::PRINT && keyword != page::SPAN && keyword != page::EDITION
 }
 
 fn nothing_asked() -> Line
