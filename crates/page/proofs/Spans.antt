@@ -1,19 +1,33 @@
--- A line with the keyword `span` means its two days, refused as they are or as their span is: by cases, as the query of
--- these days alone computes. Assumes nothing.
+-- Of two refusals the one that `first_refusal` picks is told. A line with the keyword `span` means its two days,
+-- refused as they are or as their span is: by cases, as the query of these days alone computes. Assumes nothing.
 use mathlib.Core.Bool.{Bool, true, false, cond, ◌&&◌}
-use mathlib.Core.Path.{◌≡◌, refl}
+use mathlib.Core.Path.{◌≡◌, refl, sym}
 use Prim.Native.Nat.{ℕ}
-use lib.Dec.{leb}
-use Rattle.std.specs.Prelude.{Result, Ok, Err}
+use borrow.Author.Tests.{eqb-true, eq-eqb}
+use lib.Dec.{eqb, leb}
+use Rattle.std.specs.Prelude.{Result, Ok, Err, IfErr}
 use Rattle.days.specs.declared.refusal.Refusal.{Refusal}
 use Rattle.days.specs.declared.refusal.Refusal.TheVariants.{NoSuchDate, OutOfRange, BadInput, NoSuchWeekday, LastBeforeFirst, BadCondition, ListTooShort, NoExtraMonth, BadLength, BadChecksum, BadIndex, NotZero, BadDay, BadEdition, BadLine, NoSuchBody}
 use Rattle.days.specs.Days.{last_day, check_span, answer_over}
-use Rattle.days.specs.Refusals.{and_then}
+use Rattle.days.specs.Refusals.{refusal_number, and_then}
 use Rattle.panchanga.specs.TrueLongitudes.{is_edition}
 use Rattle.query.specs.Conditions.{numbers_in_range, weekdays_in_range, arc_in_range, body_arcs_in_range, arcs_in_range, true_arcs_in_range, elements_in_range, conditions_in_range, no_arcs}
 use Rattle.query.specs.Query.{check_of}
 use Rattle.page.specs.declared.Values.{Values}
-use Rattle.page.specs.Page.{span_keyword, with_condition, both_read, numbers_read, alone_read, condition_read, line_numbers}
+use Rattle.page.specs.Page.{span_keyword, with_condition, ranks_before, first_refusal, both_read, numbers_read, alone_read, condition_read, line_numbers}
+
+-- of two refusals the one whose number comes first
+pub both-first : (r t : Refusal) → IfErr (both_read (Err r) (Err t)) (λ (x : Refusal). refusal_number x ≡ first_refusal (refusal_number r) (refusal_number t))
+unfolding both_read first_refusal
+both-first r t = go (ranks_before (refusal_number t) (refusal_number r))
+  where
+    go : (b : Bool) → refusal_number (cond (eqb (cond b (refusal_number t) (refusal_number r)) (refusal_number t)) t r) ≡ cond b (refusal_number t) (refusal_number r)
+    go true = rw (eq-eqb (refusal_number t) (refusal_number t) refl)
+    go false = same (eqb (refusal_number r) (refusal_number t)) refl
+      where
+        same : (u : Bool) → eqb (refusal_number r) (refusal_number t) ≡ u → refusal_number (cond u t r) ≡ refusal_number r
+        same true e = sym (eqb-true (refusal_number r) (refusal_number t) e)
+        same false e = refl
 
 -- a value's refusal is the line's, malformed or not
 refused : (r : Refusal) → line_numbers (condition_read span_keyword (Err r)) ≡ Err r

@@ -160,7 +160,7 @@ unfoldable pub both_read : Result ℕ Refusal → Result ℕ Refusal → Result 
 both_read (Ok a) (Ok b) = Ok (a, b)
 both_read (Ok a) (Err t) = Err t
 both_read (Err r) (Ok b) = Err r
-both_read (Err r) (Err t) = Err (cond (ranks_before (refusal_number t) (refusal_number r)) t r)
+both_read (Err r) (Err t) = Err (cond (eqb (first_refusal (refusal_number r) (refusal_number t)) (refusal_number t)) t r)
 
 -- the values that are two numbers
 abbrev pub number_values : ℕ × ℕ → Values

@@ -284,7 +284,9 @@ pub fn both(
 {
     match (first, second) {
         (Ok(first), Ok(second)) => Ok((first, second)),
-        (Err(one), Err(other)) if ranks_before(other.number(), one.number()) => Err(other),
+        (Err(one), Err(other)) if first_refusal(one.number(), other.number()) == other.number() => {
+            Err(other)
+        }
         (Err(one), _) => Err(one),
         (_, Err(other)) => Err(other),
     }
