@@ -1,21 +1,26 @@
--- A page that is accepted has a query that the search does not refuse. Each line's condition alone is not refused, and
--- conditions that are not refused alone are not refused together. Assumes nothing.
+-- A page that is accepted has a query that the search does not refuse. Each line's refusal has a place in the order of
+-- refusals; its condition alone is not refused, and conditions that are not refused alone are not refused together.
+-- Assumes nothing.
 use mathlib.Core.Path.{◌≡◌, refl, ap, sym, ◌∙◌}
 use mathlib.Core.Bool.{Bool, true, false, cond, ◌&&◌, and-eq-true_iff, false≢true}
 use mathlib.Core.List.{List, [], ◌∷◌}
-use Rattle.std.specs.Prelude.{Option, Some, None, Result, Ok, Err, ⊤, IfOk}
+use Rattle.std.specs.Prelude.{Option, Some, None, Result, Ok, Err, ⊤, IfOk, IfErr, is_ok}
 use Rattle.std.proofs.lemmas.Option.{none-some}
 use Rattle.std.proofs.lemmas.Result.{IfOk-at_ok}
-use Prim.Native.Nat.{ℕ, suc, ◌-◌, ◌≤◌, ◌<◌}
+use Prim.Native.Nat.{ℕ, zero, suc, ◌-◌, ◌≤◌, ◌<◌}
 use native.Mathlib.Omega.{arith}
 use borrow.Author.Tests.{eqb-true, eqb-false, ltb-true, le-leb}
 use lib.Dec.{eqb, leb, ltb}
 use lib.ListN.{length, get_or, set, replicate, length-set, length-replicate}
 use lib.Seq.{get_or-set_same, get_or-set_other}
 use Rattle.days.specs.declared.refusal.Refusal.{Refusal}
-use Rattle.days.specs.Refusals.{bad_input, refusal_number, and_then}
-use Rattle.days.specs.Days.{last_day}
+use Rattle.days.specs.declared.refusal.Refusal.TheVariants.{NoSuchDate, OutOfRange, BadInput, LastBeforeFirst, BadCondition, BadEdition}
+use Rattle.days.specs.Refusals.{bad_input, refusal_number, result_number, and_then}
+use Rattle.days.specs.Days.{last_day, answer_over}
+use Rattle.names.specs.declared.Kind.{Kind}
+use Rattle.names.specs.declared.Kind.TheVariants.{Weekday}
 use Rattle.panchanga.specs.TrueLongitudes.{first_edition, is_edition}
+use Rattle.query.specs.declared.Arc.{Arc}
 use Rattle.query.specs.declared.Asked.{Asked}
 use Rattle.query.specs.declared.Weekdays.{Weekdays}
 use Rattle.query.specs.declared.BodyArcs.{BodyArcs}
@@ -23,53 +28,162 @@ use Rattle.query.specs.declared.Query.{Query}
 use Rattle.query.specs.Conditions.{numbers_in_range, asked_in_range, weekdays_in_range, arcs_at, arc_in_range, body_arcs_in_range, arcs_in_range, true_arcs_in_range, elements_in_range, conditions_in_range, not_asked, no_weekdays, no_arcs}
 use Rattle.query.specs.Query.{refusal_of, check_of}
 use Rattle.query.proofs.Conditions.{arcs-true, arcs-false, true-arcs-true, true-arcs-false}
-use Rattle.query.proofs.Accepted.{accepted-by, checked}
-use Rattle.values.proofs.Refusals.{either}
-use Rattle.words.specs.Words.{first_word, after_words, place_in}
-use Rattle.page.specs.Names.{keywords}
+use Rattle.query.proofs.Accepted.{accepted-by, checked, refusal-positive}
+use Rattle.values.specs.Values.{most_of, named_set_read}
+use Rattle.values.proofs.Refusals.{either, OfReading, number-refusal, day-refusal, set-of-refusal, none-refusal}
+use Rattle.words.specs.Words.{first_word, after_word, after_words, place_in}
+use Rattle.page.specs.Names.{keywords, print_names}
 use Rattle.page.specs.declared.Values.{Values}
 use Rattle.page.specs.declared.LineRead.{LineRead}
 use Rattle.page.specs.declared.LineRead.TheVariants.{Blank, Malformed, Condition}
+use Rattle.page.specs.declared.Reason.{Reason}
+use Rattle.page.specs.declared.Reason.TheVariants.{UnknownWord, OtherValues}
 use Rattle.page.specs.declared.PageRead.{PageRead}
 use Rattle.page.specs.declared.Fault.{Fault}
 use Rattle.page.specs.declared.Page.{Page}
-use Rattle.page.specs.Page.{span_keyword, weekday_keyword, tithi_keyword, nakshatra_keyword, yoga_keyword, edition_keyword, arc_keywords, karana_keyword, true_keywords, print_keyword, keyword_count, every_day, with_condition, most_values, values_read, alone_read, condition_read, words_read, line_read, with_fault, with_new, with_keyword, with_line, with_lines, empty_page, answer_unless, page_answer, lines_of, page_read}
+use Rattle.page.specs.Page.{span_keyword, weekday_keyword, tithi_keyword, nakshatra_keyword, yoga_keyword, edition_keyword, arc_keywords, karana_keyword, true_keywords, print_keyword, keyword_count, is_element, element_of, has_arcs, every_day, with_condition, rank_of, first_refusal, print_read, first_value, second_value, both_read, number_values, numbers_read, arcs_read, arcs_in, most_values, values_read, malformed_line, alone_read, condition_read, words_read, line_read, line_numbers, with_fault, with_new, with_keyword, with_line, with_lines, empty_page, answer_unless, page_answer, lines_of, page_read}
 
--- a condition that a line does not refuse is not refused alone
+-- a refusal that has a place in the order of refusals
+abbrev pub Ranked : Refusal → Type 0
+Ranked r = rank_of (refusal_number r) < 6
+
+pub ranked-all : Ranked NoSuchDate × Ranked OutOfRange × Ranked BadInput × Ranked LastBeforeFirst × Ranked BadCondition × Ranked BadEdition
+unfolding rank_of
+ranked-all = (omega arith, omega arith, omega arith, omega arith, omega arith, omega arith)
+
+-- an answer whose refusal, if it has one, does
+abbrev RankedIn : {A : Type 0} → Result A Refusal → Type 0
+RankedIn a = IfErr a Ranked
+
+-- the refusals of a value that is read
+by-number : (n : ℕ) → n ≤ bad_input → (n ≡ 0 → ⊥) → rank_of n < 6
+unfolding rank_of
+by-number zero h some = absurd (some refl)
+by-number (suc zero) h some = omega arith
+by-number (suc (suc zero)) h some = omega arith
+by-number (suc (suc (suc zero))) h some = omega arith
+by-number (suc (suc (suc (suc n)))) h some = absurd (omega arith)
+
+ranked-read : {A : Type 0} (a : Result A Refusal) → OfReading a → RankedIn a
+unfolding OfReading result_number
+ranked-read (Ok a) h = tt {0}
+ranked-read (Err r) h = by-number (refusal_number r) h (refusal-positive r)
+
+both-ranked : (a b : Result ℕ Refusal) → RankedIn a → RankedIn b → RankedIn (both_read a b)
+unfolding both_read
+both-ranked (Ok a) (Ok b) ka kb = tt {0}
+both-ranked (Ok a) (Err t) ka kb = kb
+both-ranked (Err r) (Ok b) ka kb = ka
+both-ranked (Err r) (Err t) ka kb = either Ranked (eqb (first_refusal (refusal_number r) (refusal_number t)) (refusal_number t)) kb ka
+
+numbers-ranked : (a b : Result ℕ Refusal) → OfReading a → OfReading b → RankedIn (numbers_read a b)
+unfolding numbers_read
+numbers-ranked a b ka kb = go (both_read a b) (both-ranked a b (ranked-read a ka) (ranked-read b kb))
+  where
+    go : (d : Result (ℕ × ℕ) Refusal) → RankedIn d → RankedIn (and_then d (λ n. Ok (number_values n)))
+    go (Ok d) k = tt {0}
+    go (Err r) k = k
+
+print-refusal : (w : List ℕ) → OfReading (print_read w)
+unfolding print_read OfReading result_number
+print-refusal w = either OfReading (ltb (place_in print_names w) 2) (omega arith) (omega arith)
+
+first-value-read : (k : ℕ) (w : List ℕ) → OfReading (first_value k w)
+unfolding first_value
+first-value-read k w =
+    either OfReading (eqb k span_keyword) (day-refusal w) (either OfReading (eqb k print_keyword) (print-refusal w) (number-refusal w))
+
+second-value-read : (k : ℕ) (w : List ℕ) → OfReading (second_value k w)
+unfolding second_value
+second-value-read k w = either OfReading (eqb k span_keyword) (day-refusal w) (none-refusal w)
+
+arcs-ranked : (a b : Option Arc) (left : List ℕ) → RankedIn (arcs_read a b left)
+unfolding arcs_read
+arcs-ranked (Some a) (Some b) left = either RankedIn (eqb (length left) 0) (tt {0}) ranked-all.2
+arcs-ranked (Some a) None left = ranked-all.2
+arcs-ranked None b left = ranked-all.2
+
+set-ranked : (k : Kind) (t : List ℕ) → RankedIn (numbers_read (named_set_read k t) (Ok 0))
+unfolding OfReading result_number
+set-ranked k t = numbers-ranked (named_set_read k t) (Ok 0) (set-of-refusal k (most_of k) 0 t) (omega arith)
+
+values-ranked : (k : ℕ) (t : List ℕ) → RankedIn (values_read k t)
+unfolding values_read arcs_in
+values-ranked k t =
+    either RankedIn (eqb k weekday_keyword) (set-ranked Weekday t)
+    (either RankedIn (is_element k) (set-ranked (element_of k) t)
+    (either RankedIn (has_arcs k) (arcs-ranked _ _ _)
+    (numbers-ranked _ _ (first-value-read k (first_word t)) (second-value-read k (first_word (after_word t))))))
+
+query-ranked : (q : Query) → RankedIn (check_of q)
+unfolding check_of answer_over
+query-ranked q =
+    either RankedIn (is_edition q.edition)
+    (either RankedIn (leb q.first last_day && leb q.last last_day)
+    (either RankedIn (leb q.first q.last) (either RankedIn (conditions_in_range q) (tt {0}) ranked-all.4) ranked-all.3)
+    ranked-all.1)
+    ranked-all.5
+
+-- a line's refusal has a rank, and a condition that it does not refuse is not refused alone
 abbrev pub SoundLine : LineRead → Type 0
 SoundLine Blank = ⊤
-SoundLine (Malformed _) = ⊤
+SoundLine (Malformed _) = Ranked BadInput
 SoundLine (Condition k (Ok v)) = refusal_of (with_condition every_day k v) ≡ 0
-SoundLine (Condition k (Err _)) = ⊤
+SoundLine (Condition k (Err r)) = Ranked r
+
+malformed-sound : (why : Reason) → SoundLine (malformed_line why)
+malformed-sound why = ranked-all.2
 
 alone-sound : (k : ℕ) (v : Values) → SoundLine (Condition k (alone_read k v))
 unfolding alone_read
-alone-sound k v = go (check_of (with_condition every_day k v)) refl
+alone-sound k v = go (check_of (with_condition every_day k v)) refl (query-ranked (with_condition every_day k v))
   where
-    go : (a : Result (Unit {0}) Refusal) → check_of (with_condition every_day k v) ≡ a → SoundLine (Condition k (and_then a (λ _. Ok v)))
-    go (Ok u) e = checked _ (sym e)
-    go (Err r) e = tt {0}
+    go : (a : Result (Unit {0}) Refusal) → check_of (with_condition every_day k v) ≡ a → RankedIn a → SoundLine (Condition k (and_then a (λ _. Ok v)))
+    go (Ok u) e ranked = checked _ (sym e)
+    go (Err r) e ranked = ranked
 
-condition-sound : (k : ℕ) (v : Result Values Refusal) → SoundLine (condition_read k v)
+condition-sound : (k : ℕ) (v : Result Values Refusal) → RankedIn v → SoundLine (condition_read k v)
 unfolding condition_read
-condition-sound k (Ok v) = alone-sound k v
-condition-sound k (Err r) = either SoundLine (eqb (refusal_number r) bad_input) (tt {0}) (tt {0})
+condition-sound k (Ok v) ranked = alone-sound k v
+condition-sound k (Err r) ranked = either SoundLine (eqb (refusal_number r) bad_input) (malformed-sound (OtherValues k)) ranked
 
 words-sound : (name behind : List ℕ) → SoundLine (words_read name behind)
 unfolding words_read
 words-sound name behind =
     let k = place_in keywords name in
     either SoundLine (eqb (length name) 0) (tt {0})
-    (either SoundLine (leb keyword_count k) (tt {0})
-    (either SoundLine (eqb (length (first_word (after_words (most_values k) behind))) 0) (condition-sound k (values_read k behind)) (tt {0})))
+    (either SoundLine (leb keyword_count k) (malformed-sound UnknownWord)
+    (either SoundLine (eqb (length (first_word (after_words (most_values k) behind))) 0)
+    (condition-sound k (values_read k behind) (values-ranked k behind))
+    (malformed-sound (OtherValues k))))
 
-line-read-sound : (l : List ℕ) → SoundLine (line_read l)
+pub line-read-sound : (l : List ℕ) → SoundLine (line_read l)
 unfolding line_read
 line-read-sound l = words-sound _ _
 
 -- a fault is some fault
 pub no-fault : (f : Fault) → Some f ≡ None → ⊥
 no-fault f e = none-some f (sym e)
+
+-- where a page has no fault behind a line, it has none before it, and the line is not refused
+new-former : (p : Page) (n k : ℕ) (v : Result Values Refusal) → (with_new p n k v).fault ≡ None → p.fault ≡ None
+new-former p n k (Ok v) e = e
+new-former p n k (Err r) e = absurd (no-fault _ e)
+
+pub first-fault-former : (p : Page) (n : ℕ) (l : LineRead) → (with_line p n l).fault ≡ None → p.fault ≡ None
+unfolding with_line with_keyword
+first-fault-former p n Blank = λ e. e
+first-fault-former p n (Malformed why) = λ e. absurd (no-fault _ e)
+first-fault-former p n (Condition k v) =
+    either (λ (after : Page). after.fault ≡ None → p.fault ≡ None) (get_or p.present k false) (λ e. absurd (no-fault _ e)) (new-former p n k v)
+
+pub first-fault-latter : (p : Page) (n : ℕ) (l : LineRead) → (with_line p n l).fault ≡ None → is_ok (line_numbers l) ≡ true
+unfolding with_line with_keyword
+first-fault-latter p n Blank = λ e. refl
+first-fault-latter p n (Malformed why) = λ e. absurd (no-fault _ e)
+first-fault-latter p n (Condition k (Ok v)) = λ e. refl
+first-fault-latter p n (Condition k (Err r)) =
+    either (λ (after : Page). after.fault ≡ None → is_ok (line_numbers (Condition k (Err r))) ≡ true) (get_or p.present k false) (λ e. absurd (no-fault _ e)) (λ e. absurd (no-fault _ e))
 
 -- the arcs of so many bodies are in range
 abbrev EachInRange : ℕ → List BodyArcs → Type 0

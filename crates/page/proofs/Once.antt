@@ -21,7 +21,7 @@ use Rattle.page.specs.declared.Reason.TheVariants.{UnknownWord, OtherValues}
 use Rattle.page.specs.declared.Page.{Page}
 use Rattle.page.specs.declared.Values.{Values}
 use Rattle.page.specs.Page.{keyword_count, most_values, values_read, malformed_line, blank_line, condition_read, words_read, line_read, HasKeyword, with_fault, repeated_fault, with_new, with_keyword, with_line, with_lines, empty_page, lines_of, page_read}
-use Rattle.page.proofs.Accepted.{no-fault, answered}
+use Rattle.page.proofs.Accepted.{no-fault, first-fault-former, answered}
 use Rattle.page.proofs.Reading.{keyword-known}
 
 -- the keyword that a line begins with
@@ -85,22 +85,11 @@ line-keyword l = words-keyword (first_word (up_to hash l)) (after_word (up_to ha
 abbrev Before : Page → Page → Type 0
 Before p after = after.fault ≡ None → p.fault ≡ None
 
-new-stays : (p : Page) (n k : ℕ) (v : Result Values Refusal) → Before p (with_new p n k v)
-new-stays p n k (Ok v) e = e
-new-stays p n k (Err r) e = absurd (no-fault _ e)
-
-line_stays : (p : Page) (n : ℕ) (l : LineRead) → Before p (with_line p n l)
-unfolding with_line with_keyword
-line_stays p n Blank = λ e. e
-line_stays p n (Malformed why) = λ e. absurd (no-fault _ e)
-line_stays p n (Condition k v) =
-    either (Before p) (get_or p.present k false) (λ e. absurd (no-fault _ e)) (new-stays p n k v)
-
 stays : (p : Page) (n : ℕ) (ls : List (List ℕ)) → Before p (with_lines p n ls)
 unfolding with_lines
 stays p n [] = λ e. e
 stays p n (l ∷ []) = either (Before p) (eqb (length l) 0) (λ e. e) (λ e. absurd (no-fault _ e))
-stays p n (l ∷ m ∷ ms) = λ e. line_stays p n (line_read l) (stays (with_line p n (line_read l)) (suc n) (m ∷ ms) e)
+stays p n (l ∷ m ∷ ms) = λ e. first-fault-former p n (line_read l) (stays (with_line p n (line_read l)) (suc n) (m ∷ ms) e)
 
 -- what a line that makes no fault, with keyword k, does to the keywords that are absent
 record Fewer (k : ℕ) (p after : Page) : Type 0 where
