@@ -54,12 +54,20 @@ pub record AcceptedQuestion (q : Question) : Type 0 where
   pub day : q.day ≤ last_day
   pub query : refusal_of q.query ≡ 0
 
-both : (first : Result ℕ Fault) (page : Result PageRead Fault) → IsDay first → IfOk page (λ (r : PageRead). refusal_of r.query ≡ 0) → IfOk (asked_by first page) AcceptedQuestion
+-- both are accepted: its day is the first line's, and its query and how the days are printed are the page's
+record Both (first : Result ℕ Fault) (page : Result PageRead Fault) (q : Question) : Type 0 where
+  line : first ≡ Ok q.day
+  rest : page ≡ Ok (record { query = q.query; print = q.print })
+
+both : (first : Result ℕ Fault) (page : Result PageRead Fault) {q : Question} → asked_by first page ≡ Ok q → Both first page q
 unfolding asked_by
-both (Ok d) (Ok page) h k = record { day = h; query = k }
-both (Ok d) (Err f) h k = tt {0}
-both (Err f) (Ok page) h k = tt {0}
-both (Err f) (Err g) h k = tt {0}
+both first page e = IfOk-at_ok (λ (q : Question). Both first page q) e (go first page)
+  where
+    go : (first : Result ℕ Fault) (page : Result PageRead Fault) → IfOk (asked_by first page) (λ (q : Question). Both first page q)
+    go (Ok d) (Ok page) = record { line = refl; rest = refl }
+    go (Ok d) (Err f) = tt {0}
+    go (Err f) (Ok page) = tt {0}
+    go (Err f) (Err g) = tt {0}
 
 page-query : (text : List ℕ) → IfOk (behind_day text) (λ (r : PageRead). refusal_of r.query ≡ 0)
 page-query text = go (page_read (after_first newline text)) refl
@@ -70,7 +78,12 @@ page-query text = go (page_read (after_first newline text)) refl
 
 pub accepted-text : (text : List ℕ) {q : Question} → question_read text ≡ Ok q → AcceptedQuestion q
 unfolding question_read
-accepted-text text e = IfOk-at_ok AcceptedQuestion e (both _ _ (first-day (unmarked text)) (page-query text))
+accepted-text text e =
+    let k = both (first_line_read (unmarked text)) (behind_day text) e in
+    record {
+      day = IfOk-at_ok (λ (d : ℕ). d ≤ last_day) k.line (first-day (unmarked text));
+      query = IfOk-at_ok (λ (r : PageRead). refusal_of r.query ≡ 0) k.rest (page-query text);
+    }
 
 -- ---- the line at fault
 abbrev Early : {A : Type 0} → ℕ → Result A Fault → Type 0
