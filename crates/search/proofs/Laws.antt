@@ -21,11 +21,12 @@ use Rattle.query.specs.declared.Query.{Query}
 use Rattle.query.specs.Conditions.{body_arcs_in_range}
 use Rattle.query.specs.Query.{sun_arcs, conditions_met, matches, refusal_of, check_of}
 use Rattle.panchanga.specs.TrueLongitudes.{is_edition}
-use Rattle.query.proofs.Accepted.{accepted-by, checked}
+use Rattle.query.proofs.Accepted.{accepted-by, checked, accepts-check}
 use Rattle.search.specs.declared.Examined.{Examined}
 use Rattle.search.specs.Look.{sun_in_arcs, next_day, looked, examined_of}
 use Rattle.search.specs.Days.{span_length, span, matching_days, visited_from, visited_days}
 use Rattle.search.proofs.Arc.{next-after}
+use Rattle.search.proofs.Look.{not-refused}
 use Rattle.entries.proofs.Laws.{entries-read}
 use Rattle.entries.proofs.Lists.{Ascending, Has, weaken, days-ascend, listed, has-filtered, filtered-has, in-days, has-at}
 use Rattle.search.proofs.Skip.{matching-visited, visit-end, visit-more, bound}
@@ -64,9 +65,12 @@ matches-listed q x e = go (leb q.first x) (leb x q.last) refl refl e
     go true false f t m = absurd (false≢true m)
     go false b f t m = absurd (false≢true m)
 
--- the look goes forward: the day that it hands back is later than the day, where it is not refused
-pub next-later : (q : Query) (n : ℕ) → refusal_of q ≡ 0 → n < (looked q n).next
-next-later q n e = next-after q (accepted-by q e).sun n
+-- the look goes forward, where the query is not refused: the day that it hands back is later than the day; and this is
+-- what it answers of each day that there is, in the span or not
+pub next-later : (q : Query) (n : ℕ) → refusal_of q ≡ 0 → (n < (looked q n).next) × (n ≤ last_day → Ok (looked q n) ≡ examined_of q n)
+next-later q n e =
+    let a = accepted-by q e in
+    (next-after q a.sun n, λ (h : n ≤ last_day). not-refused q n a.edition h (sym (accepts-check q e)) refl)
 
 pub looked-later : (q : Query) (n : ℕ) {seen : Examined} → Ok seen ≡ examined_of q n → n < seen.next
 unfolding examined_of
@@ -79,7 +83,7 @@ looked-later q n {seen} r = go (is_edition q.edition) (leb n last_day) (check_of
         n < seen.next
     go true true (Ok tt) e r =
         let is : seen ≡ looked q n = cc in
-        rw is (next-later q n (checked q (sym e)))
+        rw is (next-later q n (checked q (sym e))).0
     go true true (Err x) e r = absurd cc
     go true false c e r = absurd cc
     go false h c e r = absurd cc
