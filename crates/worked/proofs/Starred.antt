@@ -16,10 +16,10 @@ use Rattle.panchanga.specs.TrueLongitudes.{bhuja, equation, signed, corrected, t
 use Rattle.panchanga.specs.Elements.{karana_after}
 use Rattle.panchanga.specs.OnDays.{true_sun_at, true_moon_at, tithi_at, nakshatra_at, yoga_at, karana_at, in_edition}
 use Rattle.query.specs.Conditions.{meets, weekday_met, given_arcs, in_arc, in_some, in_arcs, nearest_start, arcs_met, elements_met, numbers_in_range, elements_in_range, true_arcs_in_range, true_arcs_met, weekdays_in_range, arc_in_range, body_arcs_in_range, arcs_in_range, conditions_in_range}
-use Rattle.query.specs.Query.{conditions_met, refusal_of}
+use Rattle.query.specs.Query.{conditions_met, check_of}
 use Rattle.search.specs.Look.{sun_in_arcs, next_day}
 use Rattle.search.specs.Days.{matching_days, visited_from, visited_days}
-use Rattle.search.specs.Search.{result_of}
+use Rattle.search.specs.Search.{in_room, in_room_of, search_number, search_found}
 use Rattle.worked.specs.Cases.{Case, starred}
 
 pub starred-hold : map (λ (c : Case). c.found) starred ≡ map (λ (c : Case). c.said) starred
@@ -30,4 +30,4 @@ starred-hold =
     extra_months elapsed_extra_months reckoned_day having_weekday integer_day answer_from day_on difference_of table mean_longitude longitude_at longitudes_at
     longitudes_of bhuja equation signed corrected true_longitude is_edition true_moon karana_after true_sun_at true_moon_at tithi_at nakshatra_at yoga_at karana_at
     meets weekday_met given_arcs in_arc in_some in_arcs nearest_start arcs_met elements_met true_arcs_met numbers_in_range weekdays_in_range arc_in_range body_arcs_in_range arcs_in_range true_arcs_in_range elements_in_range conditions_in_range conditions_met sun_in_arcs next_day
-    refusal_of filtered days_from matching_days visited_from visited_days result_of in refl)
+    check_of filtered days_from matching_days visited_from visited_days in_room in_room_of search_number search_found in refl)

@@ -18,7 +18,7 @@ use Rattle.query.specs.declared.Query.{Query}
 use Rattle.query.specs.Conditions.{not_asked, no_weekdays, only_arc, no_arcs}
 use Rattle.search.specs.Look.{sun_on}
 use Rattle.search.specs.Days.{matching_days, visited_days}
-use Rattle.search.specs.Search.{result_of, unless_refused}
+use Rattle.search.specs.Search.{searched_of, search_number, search_found}
 
 -- what the meanings give, and what the paper says
 pub record Case : Type 0 where
@@ -71,9 +71,10 @@ two_years =
       true_arcs = replicate 7 no_arcs;
     }
 
--- a search with room for so many days: the result, the number of matching days, the number of days examined
+-- a search with room for so many days, by its answer: the result, the number of matching days, the number of days
+-- examined
 abbrev pub search : Query → ℕ → List ℕ
-search q room = result_of q room ∷ unless_refused q (length (matching_days q)) ∷ unless_refused q (length (visited_days q)) ∷ []
+search q room = let a = searched_of q room in search_number a ∷ (search_found a).length ∷ (search_found a).examined ∷ []
 
 unfoldable pub starred : List Case
 starred =
