@@ -1,6 +1,7 @@
 #!/usr/bin/env python3
-"""changed_promises.py OLD NEW, from the top of a checkout: what changed, old above new, as docs/DESIGN-PASS.md ends
-with it; what is gone is told on standard error."""
+"""changed_promises.py OLD NEW, folders, from the top of a checkout: what changed, old above new, as docs/DESIGN-PASS.md
+ends with it; there theorems whose names documents have for another thing are left out by hand, and what the others rest
+on in proofs/ is added. What is gone is told on standard error."""
 import json,re,subprocess,sys,textwrap
 old,new=sys.argv[1:3]
 r=json.loads(subprocess.run(["python3","/opt/rattle/port/contracts.py",old,new,"--json"],capture_output=True,text=True).stdout)
@@ -43,7 +44,7 @@ out.append("```")
 sect("Theorems that README or docs name")
 out.append("```diff")
 for k,v,n in changed:
-    pair(" ".join(k),[v[0][1]],[n[0][1]])
+    pair(" ".join(k),v,n)
 out.append("```")
 print("\n".join(out))
 g={"functions":r["functions not found again"],"definitions":r["definitions"]["gone"],"constants":r["ghost items and constants"]["gone"],"theorems":[k for k,_,_ in gone],
