@@ -4,7 +4,8 @@ own; that the crate is refused says of one of them that it is, and `rt must-fail
 edit is made in a copy of the crates, `rt check` is run there, and what it says is read for each wrong answer:
 
 - every function that the edit changes is refused, by a fact that fails in that function's own proof (an answer that is
-  refused, or a goal that has none and that the prover does not find);
+  refused, a goal that has none and that the prover does not find, or one that an answer leaves to a search, where the
+  prover found values at which it is false);
 - the prover says of each fact of a proof whether it fails, so that a function may be given several wrong answers at
   once: then the comment of each ends with the name of a fact in parentheses, which fails and is no other's (so too for
   several changes of meanings, where the fact may be named with its proof, as `day_of::returns-2`);

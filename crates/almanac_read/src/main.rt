@@ -53,9 +53,9 @@ impl Sheet for ReadingSheet {
     }
 }
 
-// The only way to print. By what it requires the sheet is the reading's.
-fn print_lines(reading: Result<Reading, Refusal>, sheet: &ReadingSheet) -> Result<usize, NotWritten>
-    requires { reading_lines sheet.now.reading ≡ reading_lines reading }
+// The only way to print. By what it requires the sheet's lines are the reading's.
+fn print_lines<S: Sheet>(reading: Result<Reading, Refusal>, sheet: &S) -> Result<usize, NotWritten>
+    requires { S.lines sheet.now ≡ reading_lines reading }
     ensures { AllWritten (reading_lines reading) result }
 {
     output::print_sheet(sheet)

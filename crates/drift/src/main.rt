@@ -28,9 +28,9 @@ impl Sheet for DriftSheet {
     }
 }
 
-// The only way to print. By what it requires the sheet is the input's.
-fn print_lines(input: &[u8], sheet: &DriftSheet) -> Result<usize, NotWritten>
-    requires { drift_lines sheet.now.drifts ≡ drift_lines_for input.now }
+// The only way to print. By what it requires the sheet's lines are the input's.
+fn print_lines<S: Sheet>(input: &[u8], sheet: &S) -> Result<usize, NotWritten>
+    requires { S.lines sheet.now ≡ drift_lines_for input.now }
     ensures { AllWritten (drift_lines_for input.now) result }
 {
     output::print_sheet(sheet)

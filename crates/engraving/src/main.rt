@@ -26,9 +26,9 @@ impl<'a> Sheet for Plate<'a> {
     }
 }
 
-// The only way to print. By what it requires the sheet is the input's.
-fn print_lines(input: &[u8], sheet: &Plate) -> Result<usize, NotWritten>
-    requires { plate_lines sheet.now.input.now ≡ plate_lines input.now }
+// The only way to print. By what it requires the sheet's lines are the input's.
+fn print_lines<S: Sheet>(input: &[u8], sheet: &S) -> Result<usize, NotWritten>
+    requires { S.lines sheet.now ≡ plate_lines input.now }
     ensures { AllWritten (plate_lines input.now) result }
 {
     output::print_sheet(sheet)

@@ -28,9 +28,9 @@ impl Sheet for MonthSheet {
     }
 }
 
-// The only way to print. By what it requires the sheet is the input's.
-fn print_lines(input: &[u8], sheet: &MonthSheet) -> Result<usize, NotWritten>
-    requires { month_lines sheet.now.month ≡ month_lines_for input.now }
+// The only way to print. By what it requires the sheet's lines are the input's.
+fn print_lines<S: Sheet>(input: &[u8], sheet: &S) -> Result<usize, NotWritten>
+    requires { S.lines sheet.now ≡ month_lines_for input.now }
     ensures { AllWritten (month_lines_for input.now) result }
 {
     output::print_sheet(sheet)

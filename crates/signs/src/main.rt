@@ -29,9 +29,9 @@ impl<'a> Sheet for SignSheet<'a> {
     }
 }
 
-// The only way to print. By what it requires the sheet is the input's.
-fn print_lines(input: &[u8], sheet: &SignSheet) -> Result<usize, NotWritten>
-    requires { listing_lines sheet.now.listed.sun sheet.now.listed.listing sheet.now.list.now ≡ sign_lines_for input.now }
+// The only way to print. By what it requires the sheet's lines are the input's.
+fn print_lines<S: Sheet>(input: &[u8], sheet: &S) -> Result<usize, NotWritten>
+    requires { S.lines sheet.now ≡ sign_lines_for input.now }
     ensures { AllWritten (sign_lines_for input.now) result }
 {
     output::print_sheet(sheet)
