@@ -16,6 +16,8 @@ use Rattle.words.proofs.Marks.{unmarked-shorter}
 use Rattle.words.proofs.Runs.{run-le}
 use Rattle.words.proofs.Pieces.{pieces-first, pieces-last, pieces_more, after-shorter}
 use Rattle.page.specs.declared.Page.{Page}
+use Rattle.page.specs.declared.LineRead.{LineRead}
+use Rattle.page.specs.declared.LineRead.TheVariants.{Blank}
 use Rattle.page.specs.declared.Reason.TheVariants.{UnknownWord, NotEnded, OtherValues}
 use Rattle.days.specs.declared.refusal.Refusal.{Refusal}
 use Rattle.page.specs.declared.Values.{Values}
@@ -103,3 +105,8 @@ module _ (text : List ℕ) (p : Page) (n : ℕ) (rest : List ℕ) (r : Reading t
             ∙ r.ahead);
         room = omega (arith, r.room, after-shorter newline rest more);
       }
+
+-- a blank line leaves the page
+pub reading-blank : (text : List ℕ) (p : Page) (n m : ℕ) (rest : List ℕ) (l : LineRead) → l ≡ Blank → Reading text (with_line p n l) m rest → Reading text p m rest
+unfolding with_line
+reading-blank text p n m rest l e h = rw e at h

@@ -737,8 +737,11 @@ pub fn read(text: &[u8]) -> Result<PageRead, Fault>
                 },
             ));
         }
-        let line = read_line(up_to(rest, b'\n'));
-        page = with_line(page, number, line);
+        match read_line(up_to(rest, b'\n')) {
+            // A blank line leaves the page, which is not copied.
+            LineRead::Blank => {}
+            line => page = with_line(page, number, line),
+        }
         number += 1;
         let others = after(rest, b'\n');
         rest = others;
