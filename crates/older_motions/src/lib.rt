@@ -148,7 +148,9 @@ fn farthest_over(motion: CodedMotion, first: u32, last: u32) -> Farthest
     let mut scan = scan_from(motion, first);
     let mut numerator = shorter_way(scan.ahead, circle);
     let mut day = first;
-    for next in first + 1..=last {
+    // (Not over first + 1..=last, whose end takes a second test a day: on some processors half the time again.)
+    for before in first..last {
+        let next = before + 1;
         scan = scan_next(motion, scan, gain, next);
         let distance = shorter_way(scan.ahead, circle);
         if numerator < distance {
