@@ -1,5 +1,5 @@
 -- `farthest_over` meets its contract: what `Scanned` says holds at each day. Assumes nothing.
-use mathlib.Core.Path.{refl, ◌≡◌}
+use mathlib.Core.Path.{refl}
 use Prim.Native.Nat.{◌+◌}
 use native.Mathlib.Omega.{arith}
 use Rattle.older_motions.specs.Parts.{motion_of}
